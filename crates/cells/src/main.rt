@@ -1,0 +1,205 @@
+// Prints the opcode map, one line a cell: page, opcode, mnemonic, length, cost.
+use opcodes::Cell;
+ghost use mathlib.Core.Path.{_≡_};
+ghost use Prim.Native.Nat.{_<_};
+ghost use Rattle.opcodes.specs.Map.{opcodeMap};
+
+// The mnemonics of each group of kinds, seven letters each.
+const STOPS: [u8; 112] =
+    *b"BGND   MEM    RTC    wavr   CALL   REV    REVW   WAV    STOP   PAGE2                                            ";
+
+const SHORT_BRANCHES: [u8; 112] =
+    *b"BRA    BRN    BHI    BLS    BCC    BCS    BNE    BEQ    BVC    BVS    BPL    BMI    BGE    BLT    BGT    BLE    ";
+
+const LONG_BRANCHES: [u8; 112] =
+    *b"LBRA   LBRN   LBHI   LBLS   LBCC   LBCS   LBNE   LBEQ   LBVC   LBVS   LBPL   LBMI   LBGE   LBLT   LBGT   LBLE   ";
+
+const WITH_A: [u8; 112] =
+    *b"SUBA   CMPA   SBCA          ANDA   BITA   LDAA          EORA   ADCA   ORAA   ADDA                               ";
+
+const WITH_B: [u8; 112] =
+    *b"SUBB   CMPB   SBCB          ANDB   BITB   LDAB          EORB   ADCB   ORAB   ADDB                               ";
+
+const WITH_WORDS: [u8; 112] =
+    *b"SUBD   ADDD   CPD    CPY    CPX    CPS    LDD    LDY    LDX    LDS                                              ";
+
+const STORES: [u8; 112] =
+    *b"                                                                      STAA   STAB   STD    STY    STX    STS    ";
+
+const IN_MEMORY: [u8; 112] =
+    *b"NEG    COM    INC    DEC    LSR    ROL    ROR    ASR    ASL    CLR    TST                                       ";
+
+const IN_A: [u8; 112] =
+    *b"NEGA   COMA   INCA   DECA   LSRA   ROLA   RORA   ASRA   ASLA   CLRA   TSTA                                      ";
+
+const IN_B: [u8; 112] =
+    *b"NEGB   COMB   INCB   DECB   LSRB   ROLB   RORB   ASRB   ASLB   CLRB   TSTB                                      ";
+
+const INHERENT: [u8; 112] =
+    *b"LSRD   ASLD   INX    INY    DEX    DEY    ABA    SBA    CBA    DAA    TAB    TBA    ANDCC  ORCC   TFR/EXGNOP    ";
+
+const PRODUCTS: [u8; 112] =
+    *b"MUL    EMUL   EMULS  EMACS  EDIV   EDIVS  IDIV   IDIVS  FDIV   TBL    ETBL                                      ";
+
+const STACK: [u8; 112] =
+    *b"PULX   PULY   PULA   PULB   PSHX   PSHY   PSHA   PSHB   PULC   PSHC   PULD   PSHD                               ";
+
+const JUMPS: [u8; 112] =
+    *b"JMP    JSR    BSR    RTS    RTI    SWI    TRAP   WAI    LOOP                                                    ";
+
+const BITS_AND_MOVES: [u8; 112] =
+    *b"LEAY   LEAX   LEAS   BSET   BCLR   BRSET  BRCLR  MOVB   MOVW                                                    ";
+
+const CHOICES: [u8; 112] =
+    *b"MAXA   MINA   EMAXD  EMIND  MAXM   MINM   EMAXM  EMINM                                                          ";
+
+const PAGE2: u8 = 0x09;
+
+// A line being written.
+struct Text {
+    bytes: [u8; 48],
+    len: usize,
+}
+
+fn put(t: Text, b: u8) -> Text {
+    let at = t.len;
+    if at >= 48 {
+        return t;
+    }
+    let mut next = t;
+    next.bytes[at] = b;
+    next.len = at + 1;
+    next
+}
+
+fn put_decimal(t: Text, n: u8) -> Text {
+    if n < 10 {
+        return put(t, b'0' + n);
+    }
+    put(put(t, b'0' + n / 10 % 10), b'0' + n % 10)
+}
+
+fn hex_digit(n: u8) -> u8 {
+    let digit = n % 16;
+    if digit < 10 {
+        b'0' + digit
+    } else {
+        b'A' + (digit - 10)
+    }
+}
+
+fn put_hex(t: Text, n: u8) -> Text {
+    put(put(t, hex_digit(n / 16)), hex_digit(n))
+}
+
+// Letter i of a kind's mnemonic, or a space past its end.
+fn letter(kind: u8, i: u8) -> u8
+    requires { ⌜ i < 7 ⌝ }
+{
+    let at = (kind % 16) as usize * 7 + i as usize;
+    let group = kind / 16;
+    match group {
+        0 => STOPS[at],
+        1 => SHORT_BRANCHES[at],
+        2 => LONG_BRANCHES[at],
+        3 => WITH_A[at],
+        4 => WITH_B[at],
+        5 => WITH_WORDS[at],
+        6 => STORES[at],
+        7 => IN_MEMORY[at],
+        8 => IN_A[at],
+        9 => IN_B[at],
+        10 => INHERENT[at],
+        11 => PRODUCTS[at],
+        12 => STACK[at],
+        13 => JUMPS[at],
+        14 => BITS_AND_MOVES[at],
+        _ => CHOICES[at],
+    }
+}
+
+fn put_mnemonic(t: Text, kind: u8) -> Text {
+    let mut text = t;
+    for i in 0u8..7 {
+        let l = letter(kind, i);
+        if l == b' ' {
+            break;
+        }
+        text = put(text, l);
+    }
+    text
+}
+
+// A cost of the grid, or a hyphen where the form is reserved.
+fn put_entry(t: Text, cost: u8) -> Text {
+    if cost == 0 {
+        put(t, b'-')
+    } else {
+        put_decimal(t, cost)
+    }
+}
+
+// The costs of IDX, IDX1, IDX2, [D,IDX] and [IDX2].
+fn put_five(t: Text, family: u8) -> Text {
+    let mut text = put_entry(t, opcodes::grid_entry(family, 3));
+    for column in 4u8..8 {
+        text = put_entry(put(text, b','), opcodes::grid_entry(family, column));
+    }
+    text
+}
+
+// A branch, short or long, that is neither always nor never taken.
+fn conditional(c: Cell) -> bool {
+    let group = c.kind / 16;
+    ((group == 1) | (group == 2)) & (c.kind % 16 >= 2)
+}
+
+fn put_cost(t: Text, c: Cell) -> Text {
+    if opcodes::stops(c) | (c.kind == PAGE2) {
+        return put(t, b'-');
+    }
+    if opcodes::indexed(c) {
+        return put_five(t, c.family);
+    }
+    let text = put_decimal(t, c.cost);
+    if conditional(c) {
+        return put_decimal(put(text, b'/'), opcodes::untaken_cost(c));
+    }
+    text
+}
+
+// The line of cell k: page 1 has the cells 0 to 255, page 2 those from 256 on.
+fn line(map: &[u32; 512], k: u16) -> Text
+    requires { ⌜ now map ≡ opcodeMap ⌝ }
+{
+    let second = k >= 256;
+    let opcode = (k % 256) as u8;
+    let c = opcodes::cell_at(map, second, opcode);
+    let start = Text {
+        bytes: [0; 48],
+        len: 0,
+    };
+    let page = put(start, if second { b'2' } else { b'1' });
+    let code = put_hex(put(page, b' '), opcode);
+    let name = put_mnemonic(put(code, b' '), c.kind);
+    let length = put_decimal(put(name, b' '), c.length);
+    put(put_cost(put(length, b' '), c), b'\n')
+}
+
+fn print_first(bytes: [u8; 48], n: usize) {
+    if n <= 48 {
+        io::write_all(1, &bytes[..n]);
+    }
+}
+
+fn print(t: Text) {
+    let bytes = t.bytes;
+    print_first(bytes, t.len);
+}
+
+fn main() {
+    let map = opcodes::map();
+    for k in 0u16..512 {
+        print(line(&map, k));
+    }
+}

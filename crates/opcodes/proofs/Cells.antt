@@ -1,0 +1,164 @@
+-- The laws of the table, each by one test over all 512 cells. Assumes nothing.
+use Prim.Native.Nat.{ℕ, _+_, _*_, _/_, _%_, _<_, _≤_}
+use mathlib.Core.Path.{_≡_, refl}
+use mathlib.Core.Bool.{Bool, true, false, _&&_, not}
+use mathlib.Core.List.{List, [], _∷_}
+use native.Mathlib.Omega.{arith}
+use lib.Dec.{T, leb, eqb, eqb→eq, leb→le}
+use lib.ListN.{length, getD, List·getD-eq-default}
+use native.Mathlib.Decide.{decLt}
+use Rattle.word.specs.Word.{pick}
+use Rattle.word.proofs.Table.{at-entry, at-number, everyBelow, all, holds, same, same-is}
+use Rattle.opcodes.specs.declared.Cell.{Cell}
+use Rattle.opcodes.specs.Kind.{TRAP, PAGE2, TFR/EXG, LOOP}
+use Rattle.opcodes.specs.Grid.{families, familyOf, grid, gridAt}
+use Rattle.opcodes.specs.Map.{pageOne, pageTwo, cellOf, cellNumber, opcodeMap}
+use Rattle.opcodes.specs.Postbyte.{formOf, extensionOf, indexedOf, formReserved, reservedOf, lengthOf, costOf, untakenOf}
+use Rattle.opcodes.specs.Rules.{stopsOf, stopCell, trapCell, prebyteCell, runs, regular, column, EveryCell, EveryInstruction}
+use Rattle.opcodes.proofs.Postbytes.{one-of-five}
+
+-- a cell from its number
+abbrev pub unpacked : ℕ → Cell
+unpacked p = record { kind = p / 0x100000 % 256; mode = p / 0x10000 % 16; family = p / 0x100 % 256; length = p / 0x10 % 16; cost = p % 16 }
+
+-- two cells agree in each of the five parts
+parts : Cell → Cell → List Bool
+parts a b = eqb (a .kind) (b .kind) ∷ eqb (a .mode) (b .mode) ∷ eqb (a .family) (b .family) ∷ eqb (a .length) (b .length) ∷ eqb (a .cost) (b .cost) ∷ []
+
+agrees : Cell → Cell → Bool
+agrees a b = all (parts a b)
+
+agrees-is : (a b : Cell) → T (agrees a b) → a ≡ b
+unfolding agrees parts
+agrees-is a b t = λ i. record {
+  kind = eqb→eq (a .kind) (b .kind) (holds (parts a b) t 0) i;
+  mode = eqb→eq (a .mode) (b .mode) (holds (parts a b) t 1) i;
+  family = eqb→eq (a .family) (b .family) (holds (parts a b) t 2) i;
+  length = eqb→eq (a .length) (b .length) (holds (parts a b) t 3) i;
+  cost = eqb→eq (a .cost) (b .cost) (holds (parts a b) t 4) i;
+}
+
+-- the number that the map holds for a cell gives the cell
+pub map-unpacked : (k : ℕ) → k < 512 → unpacked (getD opcodeMap k 0) ≡ cellOf k
+unfolding agrees parts opcodeMap cellOf pageOne pageTwo familyOf families
+map-unpacked k h = agrees-is _ _ (at-entry (λ k p. agrees (unpacked p) (cellOf k)) 0 opcodeMap tt k h)
+
+pub cell-number-below : (second : Bool) {opcode : ℕ} → opcode < 256 → cellNumber second opcode < 512
+cell-number-below true h = omega arith
+cell-number-below false h = omega arith
+
+-- past the last row, and past the last column, the grid has nothing
+pub past-rows : (family column : ℕ) → 18 ≤ family → gridAt family column ≡ 0
+unfolding gridAt grid
+past-rows family column h = rw (List·getD-eq-default grid [] h)
+
+pub past-columns : (family column : ℕ) → 8 ≤ column → gridAt family column ≡ 0
+unfolding gridAt grid
+past-columns family column h = go (decLt family 18)
+  where
+    go : Dec (family < 18) → gridAt family column ≡ 0
+    go (yes b) =
+        let wide : length (getD grid family []) ≡ 8 = eqb→eq _ _ (at-entry (λ k r. eqb (length r) 8) [] grid tt family b) in
+        List·getD-eq-default (getD grid family []) 0 (omega arith)
+    go (no n) = past-rows family column (omega arith)
+
+-- the rules of a cell, as tests
+rules : ℕ → List Bool
+rules k =
+    let c = cellOf k in
+    same (eqb (c .kind) TRAP) (trapCell k)
+    ∷ same (stopsOf c) (stopCell k)
+    ∷ same (eqb (c .kind) PAGE2) (prebyteCell k)
+    ∷ leb 1 (c .length)
+    ∷ leb (c .length) 6
+    ∷ leb (c .cost) 13
+    ∷ pick (regular c) (eqb (c .cost) (gridAt (c .family) (column c))) true
+    ∷ []
+
+-- the one test over the whole table
+tested : (k : ℕ) → k < 512 → T (all (rules k))
+unfolding rules cellOf pageOne pageTwo familyOf families gridAt grid
+tested k h = at-number (λ k. all (rules k)) 512 tt k h
+
+pub every-cell : EveryCell
+unfolding rules
+every-cell k h =
+    let pass = holds (rules k) (tested k h) in
+    record {
+      traps = same-is (eqb (cellOf k .kind) TRAP) (trapCell k) (pass 0);
+      stops = same-is (stopsOf (cellOf k)) (stopCell k) (pass 1);
+      prebyte = same-is (eqb (cellOf k .kind) PAGE2) (prebyteCell k) (pass 2);
+      length-low = leb→le 1 (cellOf k .length) (pass 3);
+      length-high = leb→le (cellOf k .length) 6 (pass 4);
+      bound = leb→le (cellOf k .cost) 13 (pass 5);
+      priced = λ r. eqb→eq _ _ (rw r at (pass 6));
+    }
+
+-- the cost and the length of a cell with an indexed postbyte of form j
+priceIn : Cell → ℕ → ℕ
+priceIn c j = pick (indexedOf c) (gridAt (c .family) (3 + j)) (c .cost)
+
+lengthIn : Cell → ℕ → ℕ
+lengthIn c j = c .length + pick (indexedOf c) (extensionOf j) 0
+
+-- a form that the cell does not have
+missing : Cell → ℕ → Bool
+missing c j = pick (indexedOf c) (eqb (gridAt (c .family) (3 + j)) 0) false
+
+-- a test that is asked only of cells that run, in the forms that they have
+asked : ℕ → ℕ → Bool → Bool
+asked k j t = pick (runs k) (pick (missing (cellOf k) j) true t) true
+
+bounds : ℕ → ℕ → List Bool
+bounds k j =
+    let c = cellOf k in
+    asked k j (leb 1 (priceIn c j))
+    ∷ asked k j (leb (priceIn c j) 13)
+    ∷ asked k j (pick (indexedOf c) true (leb 1 (untakenOf c)))
+    ∷ asked k j (leb (untakenOf c) 13)
+    ∷ asked k j (leb 1 (lengthIn c j))
+    ∷ asked k j (leb (lengthIn c j) 6)
+    ∷ pick (indexedOf c) (not (eqb (c .kind) TFR/EXG) && not (eqb (c .kind) LOOP)) true
+    ∷ []
+
+-- the one test over every cell in every form
+bounded : (k j : ℕ) → k < 512 → j < 5 → T (all (bounds k j))
+unfolding bounds asked missing priceIn lengthIn cellOf pageOne pageTwo familyOf families gridAt grid extensionOf untakenOf
+bounded k j h i = at-number (λ j. all (bounds k j)) 5 (at-number (λ k. everyBelow (λ j. all (bounds k j)) 5) 512 tt k h) j i
+
+-- what a test says, of a cell that runs and in a form that it has
+said : (k j : ℕ) (t : Bool) → runs k ≡ true → missing (cellOf k) j ≡ false → T (asked k j t) → T t
+unfolding asked
+said k j t r m a = rw (r, m) at a
+
+-- an indexed cell is no transfer and no loop, so what is reserved in it is a form
+form-alone : (x a b t l f : Bool) → T (pick x (not a && not b) true) → pick a t (pick b l (pick x f false)) ≡ false → pick x f false ≡ false
+form-alone false a b t l f h r = refl
+form-alone true false false t l f h r = r
+form-alone true false true t l f h r = absurd h
+form-alone true true b t l f h r = absurd h
+
+-- a postbyte that is not reserved has a form that the cell has
+not-missing : (k postbyte : ℕ) → k < 512 → postbyte < 256 → reservedOf (cellOf k) postbyte ≡ false → missing (cellOf k) (formOf postbyte) ≡ false
+unfolding missing reservedOf bounds
+not-missing k postbyte h i r =
+    let c = cellOf k in
+    let j = formOf postbyte in
+    form-alone (indexedOf c) (eqb (c .kind) TFR/EXG) (eqb (c .kind) LOOP) _ _ (formReserved c postbyte)
+    (holds (bounds k j) (bounded k j h (one-of-five postbyte i)) 6)
+    r
+
+pub every-instruction : EveryInstruction
+unfolding bounds costOf lengthOf priceIn lengthIn
+every-instruction k p h i r n =
+    let j = formOf p in
+    let pass = holds (bounds k j) (bounded k j h (one-of-five p i)) in
+    let m = not-missing k p h i n in
+    record {
+      cost-low = leb→le 1 _ (said k j _ r m (pass 0));
+      cost-high = leb→le _ 13 (said k j _ r m (pass 1));
+      untaken-low = λ e. leb→le 1 _ (rw e at (said k j _ r m (pass 2)));
+      untaken-high = leb→le _ 13 (said k j _ r m (pass 3));
+      length-low = leb→le 1 _ (said k j _ r m (pass 4));
+      length-high = leb→le _ 6 (said k j _ r m (pass 5));
+    }

@@ -1,0 +1,86 @@
+-- The rules of the whole table, one record for each cell, and the law that says that every cell meets them.
+use Prim.Native.Nat.{ℕ, _+_, _<_, _≤_}
+use mathlib.Core.Path.{_≡_}
+use mathlib.Core.Bool.{Bool, true, false, _&&_, _||_}
+use mathlib.Core.List.{List, [], _∷_}
+use lib.Dec.{leb, ltb, eqb}
+use Rattle.word.specs.Word.{pick}
+use Rattle.opcodes.specs.declared.Cell.{Cell}
+use Rattle.opcodes.specs.Kind.{TRAP, PAGE2, STOP}
+use Rattle.opcodes.specs.Mode.{EX, ID}
+use Rattle.opcodes.specs.Grid.{gridAt, NONE}
+use Rattle.opcodes.specs.Map.{cellOf}
+use Rattle.opcodes.specs.Postbyte.{indexedOf, reservedOf, lengthOf, costOf, untakenOf}
+
+-- the kinds that stop the machine are the first of the numbering, up to STOP
+abbrev pub stopsOf : Cell → Bool
+stopsOf c = leb (c .kind) STOP
+
+-- whether a number is in a list
+abbrev pub among : ℕ → List ℕ → Bool
+among k [] = false
+among k (n ∷ ns) = eqb k n || among k ns
+
+-- The ten encodings of document 01: 00 BGND, 01 MEM, 0A RTC, 3C wavr, 4A and 4B CALL, and on page 2 3A REV, 3B REVW, 3C WAV,
+-- 3E STOP.
+abbrev pub stopCell : ℕ → Bool
+stopCell k =
+    among k (0x00 ∷ 0x01 ∷ 0x0A ∷ 0x3C ∷ 0x4A ∷ 0x4B ∷ 0x13A ∷ 0x13B ∷ 0x13C ∷ 0x13E ∷ [])
+
+-- The trap range: page 2 codes 30 to 39 and 40 to FF.
+abbrev pub trapCell : ℕ → Bool
+trapCell k = leb 0x130 k && (leb k 0x139 || leb 0x140 k)
+
+-- the prebyte: cell 18 of page 1
+abbrev pub prebyteCell : ℕ → Bool
+prebyteCell k = eqb k 0x18
+
+-- what may run: neither a stop encoding nor the prebyte
+abbrev pub runs : ℕ → Bool
+runs k = pick (stopCell k) false (pick (prebyteCell k) false true)
+
+-- the grid's column for a cell: IMM, DIR and EXT by their number, IDX for any indexed mode; none for other modes
+abbrev pub regular : Cell → Bool
+regular c = pick (eqb (c .family) NONE) false (leb (c .mode) EX || indexedOf c)
+
+abbrev pub column : Cell → ℕ
+column c = pick (indexedOf c) 3 (c .mode)
+
+-- What the table promises of cell number k.
+pub record Ruled (k : ℕ) : Type 0 where
+  -- a cell is a trap exactly in the trap range
+  pub traps : eqb (cellOf k .kind) TRAP ≡ trapCell k
+  -- a cell stops the machine exactly at the ten encodings
+  pub stops : stopsOf (cellOf k) ≡ stopCell k
+  -- exactly the cell 18 of page 1 is the prebyte
+  pub prebyte : eqb (cellOf k .kind) PAGE2 ≡ prebyteCell k
+  -- a length is 1 to 6
+  pub length-low : 1 ≤ cellOf k .length
+  pub length-high : cellOf k .length ≤ 6
+  -- no cost is above 13
+  pub bound : cellOf k .cost ≤ 13
+  -- a regular cell's cost is its entry in the grid
+  pub priced : regular (cellOf k) ≡ true → cellOf k .cost ≡ gridAt (cellOf k .family) (column (cellOf k))
+
+-- The laws, each proved under the same name in proofs/Cells.antt.
+
+abbrev pub EveryCell : Type 0
+EveryCell = (k : ℕ) → k < 512 → Ruled k
+
+-- An instruction with a postbyte that is not reserved costs 1 to 13 cycles, taken or not, and is 1 to 6 bytes long.
+pub record Bounded (k postbyte : ℕ) : Type 0 where
+  pub cost-low : 1 ≤ costOf (cellOf k) postbyte
+  pub cost-high : costOf (cellOf k) postbyte ≤ 13
+  pub untaken-low : indexedOf (cellOf k) ≡ false → 1 ≤ untakenOf (cellOf k)
+  pub untaken-high : untakenOf (cellOf k) ≤ 13
+  pub length-low : 1 ≤ lengthOf (cellOf k) postbyte
+  pub length-high : lengthOf (cellOf k) postbyte ≤ 6
+
+abbrev pub EveryInstruction : Type 0
+EveryInstruction =
+    (k postbyte : ℕ) →
+    k < 512 →
+    postbyte < 256 →
+    runs k ≡ true →
+    reservedOf (cellOf k) postbyte ≡ false →
+    Bounded k postbyte

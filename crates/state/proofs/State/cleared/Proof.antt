@@ -1,0 +1,6 @@
+use borrow.Author.Needs.{needs}
+use Rattle.state.proofs.State.cleared.Statement.{statement}
+use Rattle.state.proofs.State.cleared.Tie as tie
+
+pub cleared-spec : {M : Type 1} → statement M
+cleared-spec = tie.close (tie.spec (λ c κs. search needs) (λ c. cc))

@@ -1,0 +1,2 @@
+pub mod Ccr
+pub mod State
