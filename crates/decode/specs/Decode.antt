@@ -1,0 +1,52 @@
+-- What stands at an address: an instruction with its length and cost, an encoding that stops the machine, or a reserved postbyte
+-- (document 01, "Numbered replies", 4 and 5; "Steps and cycles").
+use Prim.Native.Nat.{ℕ}
+use mathlib.Core.Bool.{Bool, _&&_, _||_}
+use mathlib.Core.List.{List}
+use lib.Dec.{eqb}
+use Rattle.word.specs.Word.{pick, plusW}
+use Rattle.memory.specs.Memory.{byteAt}
+use Rattle.opcodes.specs.declared.Cell.{Cell}
+use Rattle.opcodes.specs.Mode.{ID-ID}
+use Rattle.opcodes.specs.Map.{cellOf, cellNumber}
+use Rattle.opcodes.specs.Postbyte.{reservedOf, lengthOf, costOf, untakenOf}
+use Rattle.opcodes.specs.Rules.{stopsOf}
+use Rattle.decode.specs.declared.Decoded.{Decoded}
+use Rattle.decode.specs.declared.Fetched.{Fetched}
+use Rattle.decode.specs.declared.Fetched.the-variants.{Stop, Reserved, Instruction}
+
+-- the prebyte $18 says that the next byte is an opcode of page 2
+abbrev pub onPageTwo : List ℕ → ℕ → Bool
+onPageTwo m pc = eqb (byteAt m pc) 0x18
+
+-- the cell of the opcode at an address
+abbrev pub cellAt : List ℕ → ℕ → Cell
+cellAt m pc =
+    cellOf (cellNumber (onPageTwo m pc) (pick (onPageTwo m pc) (byteAt m (plusW pc 1)) (byteAt m pc)))
+
+-- the first byte after the opcode: a postbyte, immediate data, an address or an offset
+abbrev pub afterOpcode : List ℕ → ℕ → ℕ
+afterOpcode m pc = pick (onPageTwo m pc) (plusW pc 2) (plusW pc 1)
+
+-- Of the instructions with an indexed source and destination either postbyte may be the reserved one. The second stands right
+-- after the first, which has no bytes of its own unless it is reserved.
+abbrev pub reservedAt : List ℕ → Cell → ℕ → Bool
+reservedAt m c at = reservedOf c (byteAt m at) || eqb (c .mode) ID-ID && reservedOf c (byteAt m (plusW at 1))
+
+-- an instruction: its cell, the first byte after its opcode, the address after all of it, and its cost
+abbrev pub decodedOf : List ℕ → ℕ → Cell → ℕ → Decoded
+decodedOf m pc c at =
+    record {
+      kind = c .kind;
+      mode = c .mode;
+      at = at;
+      next = plusW pc (lengthOf c (byteAt m at));
+      cost = costOf c (byteAt m at);
+      untaken = untakenOf c;
+    }
+
+unfoldable pub fetchedOf : List ℕ → ℕ → Fetched
+fetchedOf m pc =
+    pick (stopsOf (cellAt m pc)) Stop
+    (pick (reservedAt m (cellAt m pc) (afterOpcode m pc)) Reserved
+    (Instruction (decodedOf m pc (cellAt m pc) (afterOpcode m pc))))

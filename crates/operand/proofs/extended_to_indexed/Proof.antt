@@ -1,0 +1,19 @@
+use Rattle.operand.specs.Operand.{extendedToIndexed}
+use borrow.Author.Needs.{needs}
+use Rattle.operand.proofs.extended_to_indexed.Statement.{statement}
+use Rattle.operand.proofs.extended_to_indexed.Tie as tie
+
+returns : tie.Need-returns
+unfolding extendedToIndexed
+returns c = cc
+
+pub extended-to-indexed-spec : {M : Type 1} → statement M
+extended-to-indexed-spec =
+    tie.close
+    (tie.spec
+    (λ c κs. search needs)
+    (λ c κs. search needs)
+    (λ c κs. search needs)
+    (λ c κs. search needs)
+    (λ c κs. search needs)
+    returns)

@@ -1,0 +1,19 @@
+use Rattle.operand.specs.Operand.{indexedToExtended}
+use borrow.Author.Needs.{needs}
+use Rattle.operand.proofs.indexed_to_extended.Statement.{statement}
+use Rattle.operand.proofs.indexed_to_extended.Tie as tie
+
+returns : tie.Need-returns
+unfolding indexedToExtended
+returns c = cc
+
+pub indexed-to-extended-spec : {M : Type 1} → statement M
+indexed-to-extended-spec =
+    tie.close
+    (tie.spec
+    (λ c κs. search needs)
+    (λ c κs. search needs)
+    (λ c κs. search needs)
+    (λ c κs. search needs)
+    (λ c κs. search needs)
+    returns)

@@ -1,0 +1,69 @@
+-- The effective address of an indexed operand, and the base register's update with it (document 01, "Addresses"; source document
+-- 002, section 3.8, pp. 3-5 to 3-10, and table A-5; 000, table 4).
+use Prim.Native.Nat.{ℕ, _+_, _/_, _%_}
+use mathlib.Core.List.{List}
+use lib.Dec.{eqb}
+use Rattle.word.specs.Word.{pick, bitOf, plusW}
+use Rattle.memory.specs.Memory.{byteAt, wordAt}
+use Rattle.state.specs.declared.State.{State}
+use Rattle.state.specs.State.{withX, withY, withSp, dOf}
+use Rattle.operand.specs.declared.Place.{Place}
+
+abbrev pub placeIs : ℕ → State → Place
+placeIs address state = record { address = address; state = state }
+
+-- the base register of rr: X, Y, SP, and PC as whatever address stands for it
+abbrev pub baseOf : State → ℕ → ℕ → ℕ
+baseOf s pc rr = pick (eqb rr 0) (s .x) (pick (eqb rr 1) (s .y) (pick (eqb rr 2) (s .sp) pc))
+
+-- the state with the base register of rr, which is not PC, set anew
+abbrev pub withBase : State → ℕ → ℕ → State
+withBase s rr v = pick (eqb rr 0) (withX s v) (pick (eqb rr 1) (withY s v) (withSp s v))
+
+-- nnnnn as a signed number of 5 bits: 16 to 31 stand for -16 to -1
+abbrev pub offset5 : ℕ → ℕ
+offset5 p = pick (bitOf 4 p) (p % 32 + 65504) (p % 32)
+
+-- nnnn as the amount of a step: 0 to 7 add 1 to 8, 8 to 15 add -8 to -1
+abbrev pub stepOf : ℕ → ℕ
+stepOf p = pick (bitOf 3 p) (p % 16 + 65520) (p % 16 + 1)
+
+-- the byte after the postbyte with the sign s as its ninth bit
+abbrev pub offset9 : ℕ → ℕ → ℕ
+offset9 p b = pick (eqb (p % 2) 1) (b + 65280) b
+
+-- rr0nnnnn: a signed 5-bit offset
+abbrev pub fivePlace : State → ℕ → ℕ → Place
+fivePlace s pc p = placeIs (plusW (baseOf s pc (p / 64)) (offset5 p)) s
+
+-- rr1pnnnn, rr not 3: the register steps, and the address is the stepped one where p is 0 and the old one where p is 1
+unfoldable pub steppedPlace : State → ℕ → Place
+steppedPlace s p =
+    let old = baseOf s 0 (p / 64) in
+    let new = plusW old (stepOf p) in
+    pick (bitOf 4 p) (placeIs old (withBase s (p / 64) new)) (placeIs new (withBase s (p / 64) new))
+
+-- 111rr0zs: z = 0 a 9-bit offset, zs = 10 a 16-bit one, zs = 11 indirect through a 16-bit one
+unfoldable pub constantPlace : State → List ℕ → ℕ → ℕ → ℕ → Place
+constantPlace s m at pc p =
+    let base = baseOf s pc (p / 8 % 4) in
+    let far = plusW base (wordAt m (plusW at 1)) in
+    pick (bitOf 1 p) (pick (eqb (p % 2) 1) (placeIs (wordAt m far) s) (placeIs far s))
+    (placeIs (plusW base (offset9 p (byteAt m (plusW at 1)))) s)
+
+-- 111rr1aa: unsigned A, unsigned B, D, or indirect through D
+unfoldable pub accumulatorPlace : State → List ℕ → ℕ → ℕ → Place
+accumulatorPlace s m pc p =
+    let base = baseOf s pc (p / 8 % 4) in
+    pick (eqb (p % 4) 0) (placeIs (plusW base (s .a)) s)
+    (pick (eqb (p % 4) 1) (placeIs (plusW base (s .b)) s)
+    (pick (eqb (p % 4) 2) (placeIs (plusW base (dOf s)) s) (placeIs (wordAt m (plusW base (dOf s))) s)))
+
+-- The place that the postbyte at an address names, with the bytes after it. `pc` is what PC stands for as a base: the address
+-- after the whole instruction, and in a move that address as table 3-3 corrects it.
+unfoldable pub indexedPlace : State → List ℕ → ℕ → ℕ → Place
+indexedPlace s m at pc =
+    let p = byteAt m at in
+    pick (bitOf 5 p)
+    (pick (eqb (p / 64) 3) (pick (bitOf 2 p) (accumulatorPlace s m pc p) (constantPlace s m at pc p)) (steppedPlace s p))
+    (fivePlace s pc p)
