@@ -21,3 +21,4 @@ pub mod opcodes;
 pub mod postbyte;
 pub mod random;
 pub mod step;
+pub mod sums;

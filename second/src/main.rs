@@ -1,9 +1,10 @@
-//! The command line: `second cases`, `generate`, `coverage`, `cells`, `bench`, `help`.
+//! The command line: `second cases`, `generate`, `coverage`, `cells`, `sums`, `bench`,
+//! `help`.
 
 use second::case::{answer, Case, Memories};
 use second::coverage::Coverage;
 use second::generate::{Generator, Kind};
-use second::{bench, cells, memory};
+use second::{bench, cells, memory, sums};
 use std::io::{self, BufRead, BufWriter, Read, Write};
 use std::process::ExitCode;
 
@@ -16,6 +17,8 @@ second: a second emulator of the CPU12 (HCS12 edition)
   second coverage                   reads cases and reports which cells and address
                                     forms they meet; status 1 if one was not met
   second cells                      prints the opcode map, one line a cell
+  second sums                       prints a checksum of each 8-bit operation over all
+                                    its operands
   second bench                      resets and runs the image on standard input
   second help                       prints this text
 
@@ -43,6 +46,7 @@ fn main() -> ExitCode {
         ["generate", kind, count, seed] => generate(kind, count, seed),
         ["coverage"] => coverage(),
         ["cells"] => print_lines(&cells::lines()),
+        ["sums"] => print_lines(&sums::lines()),
         ["bench"] => run_bench(),
         ["help"] => print_text(HELP),
         _ => Err(Failure::Message(format!("cannot read the command line\n\n{}", HELP))),

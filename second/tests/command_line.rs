@@ -73,10 +73,11 @@ fn each_kind_writes_its_letter() {
 
 #[test]
 fn wrong_arguments_get_a_message_and_status_1() {
-    let wrong: [&[&str]; 9] = [
+    let wrong: [&[&str]; 10] = [
         &[],
         &["nonsense"],
         &["cases", "extra"],
+        &["sums", "extra"],
         &["generate"],
         &["generate", "q", "1", "1"],
         &["generate", "s", "many", "1"],
@@ -145,7 +146,7 @@ fn bench_prints_one_line() {
 #[test]
 fn help_names_every_command() {
     let output = second(&["help"], b"");
-    for command in ["cases", "generate", "coverage", "cells", "bench", "help"] {
+    for command in ["cases", "generate", "coverage", "cells", "sums", "bench", "help"] {
         assert!(text(&output.stdout).contains(&format!("second {}", command)));
     }
     assert_eq!(output.status.code(), Some(0));

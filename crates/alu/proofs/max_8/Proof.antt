@@ -1,0 +1,12 @@
+use native.Mathlib.Nat.{le-of-lt, max-eq-left, max-eq-right}
+use borrow.Author.Needs.{needs}
+use Rattle.alu.proofs.max_8.Statement.{statement}
+use Rattle.alu.proofs.max_8.Tie as tie
+
+pub max-8-spec : {M : Type 1} → statement M
+max-8-spec =
+    tie.close
+    (tie.spec
+    (λ c κs. search needs)
+    (λ c. rw (c .before .before .sub-8 .ensures, max-eq-right (le-of-lt (c .if1 .taken))))
+    (λ c. rw (c .before .before .sub-8 .ensures, max-eq-left (c .if1 .left))))

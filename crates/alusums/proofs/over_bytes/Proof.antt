@@ -1,0 +1,25 @@
+use Prim.Native.Nat.{_≤_, _-_}
+use borrow.Author.Needs.{needs}
+use Rattle.alusums.proofs.over_bytes.Statement.{statement}
+use Rattle.alusums.proofs.over_bytes.Tie as tie
+
+abbrev Inv-loop : tie.InvT-loop
+Inv-loop start op f v₀ x₀ v x = x ≤ 256
+
+abbrev μ-loop : tie.MeasureT-loop
+μ-loop start op f v₀ x₀ v x = 256 - x
+
+pub over-bytes-spec : {M : Type 1} → statement M
+over-bytes-spec =
+    tie.close
+    (tie.spec
+    Inv-loop
+    μ-loop
+    (λ c. search needs)
+    (λ c. search needs)
+    (λ c κs. search needs)
+    (λ c κs. search needs)
+    (λ c. search needs)
+    (λ c. search needs)
+    (λ c. search needs)
+    (λ c. search needs))

@@ -1,0 +1,31 @@
+use mathlib.Core.Path.{sym}
+use mathlib.Core.Bool.{false}
+use lib.ListN.{List·getD-eq-default}
+use borrow.Author.Needs.{needs}
+use Rattle.codes.specs.Conditions.{conditions}
+use Rattle.codes.proofs.Laws.{past}
+use Rattle.codes.proofs.condition.Statement.{statement}
+use Rattle.codes.proofs.condition.Tie as tie
+
+pub condition-spec : {M : Type 1} → statement M
+condition-spec =
+    tie.close
+    (tie.spec
+    (λ c κs. search needs)
+    (λ c. search needs)
+    (λ c. search needs)
+    (λ c. rw (c .before .match .keys3))
+    (λ c. rw (c .before .match .keys4))
+    (λ c. search needs)
+    (λ c. search needs)
+    (λ c. search needs)
+    (λ c. search needs)
+    (λ c. search needs)
+    (λ c. search needs)
+    (λ c. search needs)
+    (λ c. search needs)
+    (λ c. rw (c .match .keys13, c .before .sign-wrong .ensures))
+    (λ c. rw (c .match .keys14, c .before .sign-wrong .ensures))
+    (λ c. rw (c .before .match .keys15, c .before .before .sign-wrong .ensures))
+    (λ c. rw (c .before .match .keys16, c .before .before .sign-wrong .ensures))
+    (λ c. sym (List·getD-eq-default (conditions (c .before .before .args .f)) false (past 16 (c .before .before .args .code) (c .match .rest)))))

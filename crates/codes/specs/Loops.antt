@@ -1,0 +1,24 @@
+-- The loop primitives, from the glossary pages of DBEQ, DBNE, TBEQ, TBNE, IBEQ and IBNE in source document 002. No code is affected.
+-- The kind is bits 7 to 5 of the postbyte: 0 DBEQ, 1 DBNE, 2 TBEQ, 3 TBNE, 4 IBEQ, 5 IBNE; 6 and 7 are reserved, which the caller
+-- refuses. k is the number of the counter's top bit, 7 or 15.
+use Prim.Native.Nat.{ℕ, _%_}
+use mathlib.Core.Bool.{Bool, not}
+use lib.Dec.{leb, ltb, eqb}
+use Rattle.word.specs.Word.{pick}
+use Rattle.alu.specs.Alu.{oneMore, oneLess}
+use Rattle.codes.specs.declared.Turn8.{Turn8}
+use Rattle.codes.specs.declared.Turn16.{Turn16}
+
+-- (Counter) - 1, (Counter) as it is, (Counter) + 1
+abbrev pub counted : ℕ → ℕ → ℕ → ℕ
+counted k kind n = pick (ltb kind 2) (oneLess k n) (pick (ltb kind 4) n (oneMore k n))
+
+-- the branch is taken if (Counter) = 0 for the kinds of EQ, and if not for those of NE
+abbrev pub taken : ℕ → ℕ → Bool
+taken kind n = pick (eqb (kind % 2) 0) (eqb n 0) (not (eqb n 0))
+
+abbrev pub turnByte : ℕ → ℕ → Turn8
+turnByte kind n = record { counter = counted 7 kind n; taken = taken kind (counted 7 kind n) }
+
+abbrev pub turnWord : ℕ → ℕ → Turn16
+turnWord kind n = record { counter = counted 15 kind n; taken = taken kind (counted 15 kind n) }

@@ -1,0 +1,14 @@
+-- What a step does: the state after it, its cost, and the one run of bytes that it stores.
+use Prim.Native.Nat.{ℕ}
+use Rattle.memory.specs.declared.Store.{Store}
+use Rattle.memory.specs.Memory.{noStore}
+use Rattle.state.specs.declared.State.{State}
+use Rattle.effect.specs.declared.Effect.{Effect}
+
+-- a step that stores
+abbrev pub writes : State → ℕ → Store → Effect
+writes s cost w = record { state = s; cost = cost; store = w }
+
+-- a step that stores nothing
+abbrev pub quiet : State → ℕ → Effect
+quiet s cost = writes s cost noStore

@@ -1,0 +1,4 @@
+pub mod Branches
+pub mod Stack
+pub mod Jumps
+pub mod Moves

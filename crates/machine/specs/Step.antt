@@ -1,0 +1,56 @@
+-- Reset and a single step: reply, state, cycles used and all bytes, for every input (document 01, "Numbered replies").
+use Prim.Native.Nat.{ℕ, _+_}
+use mathlib.Core.Path.{_≡_}
+use mathlib.Core.Bool.{Bool, true, not}
+use mathlib.Core.List.{List}
+use lib.Dec.{ltb, eqb}
+use lib.ListN.{length}
+use Rattle.word.specs.Word.{pick}
+use Rattle.memory.specs.Memory.{wordAt, committed}
+use Rattle.state.specs.declared.Flags.{Flags}
+use Rattle.state.specs.declared.State.{State}
+use Rattle.state.specs.Ccr.{noFlags, setS, setX, setI}
+use Rattle.state.specs.State.{noState, withPc, withFlags, withClock}
+use Rattle.machine.specs.declared.Reply.{Reply}
+use Rattle.machine.specs.declared.Machine.{Machine}
+use Rattle.machine.specs.declared.Stepped.{Stepped}
+use Rattle.machine.specs.declared.Turn.{Turn}
+use Rattle.machine.specs.Names.{numberOf, memorySize, stepLimit, resetVector}
+use Rattle.machine.specs.Turn.{turnOf}
+
+-- S, X and I set, everything else clear, and PC as given
+abbrev pub resetState : ℕ → State
+resetState pc = withPc (withFlags noState (setS (setX (setI noFlags true) true) true)) pc
+
+-- a reset: reply 0 and the word at the reset vector, or reply 1 and PC 0
+abbrev pub resetReply : List ℕ → ℕ
+resetReply m = pick (eqb (length m) memorySize) 0 1
+
+abbrev pub resetOf : List ℕ → State
+resetOf m = resetState (pick (eqb (length m) memorySize) (wordAt m resetVector) 0)
+
+-- whether a step is refused: reply 1 for the memory, then 3 for the clock
+abbrev pub refusal : State → List ℕ → ℕ
+refusal s m = pick (not (eqb (length m) memorySize)) 1 (pick (ltb stepLimit (s .clock)) 3 0)
+
+-- the reply, the state after, the cycles used and the memory after
+unfoldable pub stepReply : State → List ℕ → ℕ → ℕ
+stepReply s m line = pick (eqb (refusal s m) 0) (numberOf (turnOf s m line .reply)) (refusal s m)
+
+unfoldable pub stepCycles : State → List ℕ → ℕ → ℕ
+stepCycles s m line = pick (eqb (refusal s m) 0) (turnOf s m line .effect .cost) 0
+
+unfoldable pub stepState : State → List ℕ → ℕ → State
+stepState s m line =
+    let e = turnOf s m line .effect in
+    pick (eqb (refusal s m) 0) (withClock (e .state) (s .clock + e .cost)) s
+
+unfoldable pub stepMemory : State → List ℕ → ℕ → List ℕ
+stepMemory s m line = pick (eqb (refusal s m) 0) (committed m (turnOf s m line .effect .store)) m
+
+-- What a step promises of its answer r and of the memory m′ that it leaves.
+pub record StepAnswer (s : State) (m : List ℕ) (line : ℕ) (r : Stepped) (m′ : List ℕ) : Type 0 where
+  pub reply : numberOf (r .reply) ≡ stepReply s m line
+  pub state : r .machine .state ≡ stepState s m line
+  pub cycles : r .cycles ≡ stepCycles s m line
+  pub memory : m′ ≡ stepMemory s m line

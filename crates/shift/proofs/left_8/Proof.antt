@@ -1,0 +1,15 @@
+use native.Mathlib.Omega.{arith}
+use borrow.Author.Needs.{needs}
+use Rattle.shift.proofs.left_8.Statement.{statement}
+use Rattle.shift.proofs.left_8.Tie as tie
+
+pub left-8-spec : {M : Type 1} → statement M
+left-8-spec =
+    tie.close
+    (tie.spec
+    (λ c. search needs)
+    (λ c. search needs)
+    (λ c. search needs)
+    (λ c. search needs)
+    (λ c. rw (c .if1 .taken))
+    (λ c. rw (c .if1 .left) (omega arith)))
