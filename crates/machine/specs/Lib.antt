@@ -1,3 +1,6 @@
 pub mod Names
 pub mod Turn
 pub mod Step
+pub mod Outcome
+pub mod Bounds
+pub mod Bench

@@ -1,0 +1,45 @@
+-- The answers of a step and of a reset are determined by their promises. Assumes nothing.
+use Prim.Native.Nat.{ℕ}
+use mathlib.Core.Path.{_≡_, refl, sym, _∙_, ap}
+use lib.Dec.{eqb}
+use Rattle.word.specs.Word.{pick}
+use Rattle.machine.specs.declared.Reply.{Reply}
+use Rattle.machine.specs.declared.Reply.the-variants.{Done, WrongMemory, WrongSchedule, PastLimit, Stopped, ReservedPostbyte}
+use Rattle.machine.specs.Names.{numberOf}
+use Rattle.machine.specs.Outcome.{OneStep, OneReset}
+
+-- the reply of a number
+replyOf : ℕ → Reply
+replyOf n =
+    pick (eqb n 0) Done
+    (pick (eqb n 1) WrongMemory
+    (pick (eqb n 2) WrongSchedule (pick (eqb n 3) PastLimit (pick (eqb n 4) Stopped ReservedPostbyte))))
+
+back : (r : Reply) → replyOf (numberOf r) ≡ r
+unfolding replyOf
+back Done = refl
+back WrongMemory = refl
+back WrongSchedule = refl
+back PastLimit = refl
+back Stopped = refl
+back ReservedPostbyte = refl
+
+-- replies with the same number are the same
+same-reply : (r r′ : Reply) → numberOf r ≡ numberOf r′ → r ≡ r′
+same-reply r r′ e = sym (back r) ∙ (ap replyOf e ∙ back r′)
+
+pub one-step : OneStep
+one-step s m line r r′ n n′ a b = (
+  λ i. record {
+    reply = same-reply (r .reply) (r′ .reply) (a .reply ∙ sym (b .reply)) i;
+    machine = record { state = (a .state ∙ sym (b .state)) i };
+    cycles = (a .cycles ∙ sym (b .cycles)) i;
+  },
+  a .memory ∙ sym (b .memory),
+)
+
+pub one-reset : OneReset
+one-reset m r r′ a b = λ i. record {
+  reply = same-reply (r .reply) (r′ .reply) (a .0 ∙ sym (b .0)) i;
+  machine = record { state = (a .1 ∙ sym (b .1)) i };
+}
