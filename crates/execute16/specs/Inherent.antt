@@ -1,4 +1,5 @@
 -- Group A: what needs no operand in memory, the condition codes and the transfers. Each costs what its cell says and stores nothing.
+-- The glossary of 002 (section 6.6), the page of the instruction that is named.
 use Prim.Native.Nat.{ℕ, _%_}
 use mathlib.Core.Bool.{false}
 use mathlib.Core.List.{List}

@@ -1,4 +1,5 @@
--- Group B: multiplication, division and table lookup.
+-- Group B: multiplication, division and table lookup. The glossary of 002 (section 6.6), the page of the instruction that is named,
+-- says which registers hold the operands and the result.
 use Prim.Native.Nat.{ℕ, _+_, _*_, _/_, _%_}
 use mathlib.Core.List.{List}
 use lib.Dec.{leb, eqb}

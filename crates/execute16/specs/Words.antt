@@ -1,5 +1,6 @@
 -- The instructions on words: D, X, Y or SP with an operand, the stores, and the larger or smaller of two. The members of a group are
--- numbered as in specs/Kind.antt of the opcode map. The state is the one after the operand's base register has stepped.
+-- numbered as in specs/Kind.antt of the opcode map. The state is the one after the operand's base register has stepped. The
+-- operations are those of the glossary (002, section 6.6), each on the page of the instruction that is named.
 use Prim.Native.Nat.{ℕ, _%_}
 use mathlib.Core.List.{List}
 use lib.Dec.{eqb}

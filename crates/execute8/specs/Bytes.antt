@@ -1,6 +1,7 @@
 -- The instructions on bytes: A or B with an operand, a byte changed in memory or in A or B, stores, and the larger or smaller of two.
 -- Each group goes by its members as specs/Kind.antt of the opcode map numbers them. The state is the one after the operand's base
--- register has stepped, with PC after the whole instruction; the operations are those of the glossary.
+-- register has stepped, with PC after the whole instruction; the operations are those of the glossary (002, section 6.6), each on the
+-- page of the instruction that is named.
 use Prim.Native.Nat.{ℕ, _%_}
 use mathlib.Core.Bool.{Bool, true, false}
 use mathlib.Core.List.{List}

@@ -1,4 +1,5 @@
--- Group D without SWI and TRAP, whose vectors are the machine's: jumps, subroutines, returns, waiting and loops.
+-- Group D without SWI and TRAP, whose vectors are the machine's: jumps, subroutines, returns, waiting and loops. The
+-- glossary of 002 (section 6.6), the page of the instruction that is named.
 use Prim.Native.Nat.{ℕ, _%_}
 use mathlib.Core.List.{List}
 use lib.Dec.{eqb}

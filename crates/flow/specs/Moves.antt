@@ -1,4 +1,5 @@
--- Group E: effective addresses, bits of memory, and moves.
+-- Group E: effective addresses, bits of memory, and moves. The glossary of 002 (section 6.6), the page of the instruction that is
+-- named.
 use Prim.Native.Nat.{ℕ, _%_}
 use mathlib.Core.Bool.{Bool, true, false}
 use mathlib.Core.List.{List}
