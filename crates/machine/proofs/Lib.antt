@@ -1,3 +1,4 @@
 pub mod Outcome
 pub mod Bounds
 pub mod Bench
+pub mod Run

@@ -1,6 +1,7 @@
 pub mod Names
 pub mod Turn
 pub mod Step
+pub mod Run
 pub mod Outcome
 pub mod Bounds
 pub mod Bench

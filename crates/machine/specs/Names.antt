@@ -16,6 +16,16 @@ numberOf ReservedPostbyte = 5
 abbrev pub memorySize : ℕ
 memorySize = 65536
 
+-- the records of a schedule, the budget, and the clock with the budget added, at most
+abbrev pub recordLimit : ℕ
+recordLimit = 64
+
+abbrev pub budgetLimit : ℕ
+budgetLimit = 100000000
+
+abbrev pub clockLimit : ℕ
+clockLimit = 4000000000
+
 -- the clock at which a single step is still taken
 abbrev pub stepLimit : ℕ
 stepLimit = 3999999900

@@ -4,14 +4,14 @@ use Prim.Native.Nat.{ℕ}
 use mathlib.Core.Path.{_≡_}
 use mathlib.Core.List.{List}
 use Rattle.state.specs.declared.State.{State}
-use Rattle.machine.specs.declared.Stepped.{Stepped}
+use Rattle.machine.specs.declared.Answer.{Answer}
 use Rattle.machine.specs.declared.Started.{Started}
 use Rattle.machine.specs.Names.{numberOf}
 use Rattle.machine.specs.Step.{StepAnswer, resetReply, resetOf}
 
 abbrev pub OneStep : Type 0
 OneStep =
-    (s : State) (m : List ℕ) (line : ℕ) (r r′ : Stepped) (n n′ : List ℕ) →
+    (s : State) (m : List ℕ) (line : ℕ) (r r′ : Answer) (n n′ : List ℕ) →
     StepAnswer s m line r n → StepAnswer s m line r′ n′ → (r ≡ r′) × (n ≡ n′)
 
 abbrev pub OneReset : Type 0

@@ -13,7 +13,7 @@ use Rattle.state.specs.Ccr.{noFlags, setS, setX, setI}
 use Rattle.state.specs.State.{noState, withPc, withFlags, withClock}
 use Rattle.machine.specs.declared.Reply.{Reply}
 use Rattle.machine.specs.declared.Machine.{Machine}
-use Rattle.machine.specs.declared.Stepped.{Stepped}
+use Rattle.machine.specs.declared.Answer.{Answer}
 use Rattle.machine.specs.declared.Turn.{Turn}
 use Rattle.machine.specs.Names.{numberOf, memorySize, stepLimit, resetVector}
 use Rattle.machine.specs.Turn.{turnOf}
@@ -33,23 +33,31 @@ resetOf m = resetState (pick (eqb (length m) memorySize) (wordAt m resetVector) 
 abbrev pub refusal : State → List ℕ → ℕ
 refusal s m = pick (not (eqb (length m) memorySize)) 1 (pick (ltb stepLimit (s .clock)) 3 0)
 
--- the reply, the state after, the cycles used and the memory after
+-- what a turn leaves: the clock has grown by its cost, and its store is made
+abbrev pub turnCost : State → List ℕ → ℕ → ℕ
+turnCost s m line = turnOf s m line .effect .cost
+
+abbrev pub turnState : State → List ℕ → ℕ → State
+turnState s m line = withClock (turnOf s m line .effect .state) (s .clock + turnCost s m line)
+
+abbrev pub turnMemory : State → List ℕ → ℕ → List ℕ
+turnMemory s m line = committed m (turnOf s m line .effect .store)
+
+-- a step's reply, the state after, the cycles used and the memory after
 unfoldable pub stepReply : State → List ℕ → ℕ → ℕ
 stepReply s m line = pick (eqb (refusal s m) 0) (numberOf (turnOf s m line .reply)) (refusal s m)
 
 unfoldable pub stepCycles : State → List ℕ → ℕ → ℕ
-stepCycles s m line = pick (eqb (refusal s m) 0) (turnOf s m line .effect .cost) 0
+stepCycles s m line = pick (eqb (refusal s m) 0) (turnCost s m line) 0
 
 unfoldable pub stepState : State → List ℕ → ℕ → State
-stepState s m line =
-    let e = turnOf s m line .effect in
-    pick (eqb (refusal s m) 0) (withClock (e .state) (s .clock + e .cost)) s
+stepState s m line = pick (eqb (refusal s m) 0) (turnState s m line) s
 
 unfoldable pub stepMemory : State → List ℕ → ℕ → List ℕ
-stepMemory s m line = pick (eqb (refusal s m) 0) (committed m (turnOf s m line .effect .store)) m
+stepMemory s m line = pick (eqb (refusal s m) 0) (turnMemory s m line) m
 
 -- What a step promises of its answer r and of the memory m′ that it leaves.
-pub record StepAnswer (s : State) (m : List ℕ) (line : ℕ) (r : Stepped) (m′ : List ℕ) : Type 0 where
+pub record StepAnswer (s : State) (m : List ℕ) (line : ℕ) (r : Answer) (m′ : List ℕ) : Type 0 where
   pub reply : numberOf (r .reply) ≡ stepReply s m line
   pub state : r .machine .state ≡ stepState s m line
   pub cycles : r .cycles ≡ stepCycles s m line

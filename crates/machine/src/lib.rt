@@ -1,4 +1,5 @@
-// The machine: reset, and one step under a line byte. What it is lent is tested here, and refused with document 01's number.
+// The machine: reset, one step under a line byte, and a run with a schedule and a budget. What it is lent is tested here, and refused
+// with document 01's number.
 use decode::Decoded;
 use decode::Fetched;
 use effect::Effect;
@@ -6,12 +7,16 @@ use state::Flags;
 use state::State;
 ghost use mathlib.Core.Path.{_≡_};
 ghost use mathlib.Core.Bool.{true};
-ghost use Prim.Native.Nat.{_<_};
+ghost use Prim.Native.Nat.{_<_, _≤_, _+_, suc};
+ghost use lib.Dec.{eqb, ltb};
+ghost use mathlib.Core.Bool.{_||_};
 ghost use lib.ListN.{length};
+ghost use Rattle.schedule.specs.Schedule.{rising};
 ghost use Rattle.opcodes.specs.Map.{opcodeMap};
-ghost use Rattle.machine.specs.Names.{numberOf, lineVector};
+ghost use Rattle.machine.specs.Names.{numberOf, lineVector, budgetLimit, clockLimit};
 ghost use Rattle.machine.specs.Turn.{lowestLine, allowedLine, masked as maskedOf, entryEffect, wakeEffect, controlled as controlledOf, executed as executedOf, turnIs, ranOf, turnOf, instructed as instructedOf};
 ghost use Rattle.machine.specs.Step.{resetState, resetReply, resetOf, StepAnswer};
+ghost use Rattle.machine.specs.Run.{Ends, goesOn, pastLimit, RunAnswer};
 
 // Document 01's replies; `numberOf` in specs/Names.antt gives the number of each.
 pub enum Reply {
@@ -38,7 +43,8 @@ pub struct Started {
     pub machine: Machine,
 }
 
-pub struct Stepped {
+// What a step or a run answers: the machine after it, and the cycles that it used.
+pub struct Answer {
     pub reply: Reply,
     pub machine: Machine,
     pub cycles: u32,
@@ -212,8 +218,76 @@ pub fn turn_at(map: &[u32; 512], s: State, m: &[u8], line: u8) -> Turn
     instructed(s, m, decode::fetch(map, m, s.pc))
 }
 
+fn is_done(r: Reply) -> bool
+    ensures { λ b. ⌜ b ≡ eqb (numberOf r) 0 ⌝ }
+{
+    match r {
+        Reply::Done => true,
+        Reply::WrongMemory => false,
+        Reply::WrongSchedule => false,
+        Reply::PastLimit => false,
+        Reply::Stopped => false,
+        Reply::ReservedPostbyte => false,
+    }
+}
+
+// The clock and the budget may each be any number of 32 bits: their sum is taken in 64.
+fn past_limit(clock: u32, budget: u32) -> bool
+    ensures { λ r. ⌜ r ≡ pastLimit clock budget ⌝ }
+{
+    (budget > Machine::BUDGET_LIMIT) | (clock as u64 + budget as u64 > Machine::CLOCK_LIMIT)
+}
+
+// A run from its first boundary on. What it was lent has been tested.
+fn go(
+    map: &[u32; 512],
+    start: State,
+    m: &mut [u8],
+    cycles: &[u32],
+    lines: &[u8],
+    budget: u32,
+) -> Answer
+    requires { ⌜ now map ≡ opcodeMap ⌝ }
+    requires { ⌜ length (now m) ≡ 65536 ⌝ }
+    requires { ⌜ length (now cycles) ≡ length (now lines) ⌝ }
+    requires { ⌜ rising (now cycles) ≡ true ⌝ }
+    requires { ⌜ start .clock + budget ≤ clockLimit ⌝ }
+    ensures { λ r. ⌜ Ends (goesOn (suc budget) (now (cycles .entry)) (now (lines .entry)) start (now (m .entry)) budget) r (now (m .exit)) ⌝ }
+{
+    let mut s = start;
+    let mut left = budget;
+    let mut used: u32 = 0;
+    let mut place: usize = 0;
+    loop {
+        place = schedule::passed(cycles, place, s.clock);
+        let line = schedule::line_before(lines, place);
+        let next = turn_at(map, s, &m[..], line);
+        let reply = next.reply;
+        if !is_done(reply) {
+            break Machine::answered(reply, s, used);
+        }
+        let done = next.effect;
+        let cost = done.cost as u32;
+        if left < cost {
+            break Machine::answered(Reply::Done, s, used);
+        }
+        let after = done.state;
+        let store = done.store;
+        memory::commit(m, store);
+        s = after.with_clock(s.clock + cost);
+        left = left - cost;
+        used = used + cost;
+    }
+}
+
 impl Machine {
     pub const MEMORY: usize = 65536;
+
+    pub const RECORDS: usize = 64;
+
+    pub const BUDGET_LIMIT: u32 = 100000000;
+
+    pub const CLOCK_LIMIT: u64 = 4000000000;
 
     pub const STEP_LIMIT: u32 = 3999999900;
 
@@ -263,7 +337,7 @@ impl Machine {
     }
 
     // One step under the line byte `line`. Refused or stopped, it changes no register and no byte.
-    pub fn step(self, m: &mut [u8], line: u8) -> Stepped
+    pub fn step(self, m: &mut [u8], line: u8) -> Answer
         ensures { λ r. ⌜ StepAnswer (self .state) (now (m .entry)) line r (now (m .exit)) ⌝ }
     {
         let s = self.state;
@@ -284,11 +358,29 @@ impl Machine {
         Machine::answered(reply, after.with_clock(s.clock + cycles), cycles)
     }
 
-    fn answered(reply: Reply, state: State, cycles: u32) -> Stepped
+    // Steps, each under the line byte in force at its boundary, until one costs more than is left of the budget or the machine stops.
+    pub fn run(self, m: &mut [u8], cycles: &[u32], lines: &[u8], budget: u32) -> Answer
+        ensures { λ r. ⌜ RunAnswer (self .state) (now (m .entry)) (now (cycles .entry)) (now (lines .entry)) budget r (now (m .exit)) ⌝ }
+    {
+        let s = self.state;
+        if m.len() != Machine::MEMORY {
+            return Machine::answered(Reply::WrongMemory, s, 0);
+        }
+        if !schedule::accepted(cycles, lines, Machine::RECORDS) {
+            return Machine::answered(Reply::WrongSchedule, s, 0);
+        }
+        if past_limit(s.clock, budget) {
+            return Machine::answered(Reply::PastLimit, s, 0);
+        }
+        let map = opcodes::map();
+        go(&map, s, m, cycles, lines, budget)
+    }
+
+    fn answered(reply: Reply, state: State, cycles: u32) -> Answer
         ensures { λ r. ⌜ (r .reply ≡ reply) × ((r .machine .state ≡ state) × (r .cycles ≡ cycles)) ⌝ }
     {
         let machine = Machine { state: state };
-        Stepped {
+        Answer {
             reply: reply,
             machine: machine,
             cycles: cycles,

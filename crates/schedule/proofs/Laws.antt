@@ -1,0 +1,154 @@
+-- The laws of the schedule, on the definitions alone. Assumes nothing.
+use Prim.Native.Nat.{ℕ, zero, suc, _+_, _-_, _<_, _≤_}
+use native.Mathlib.Omega.{arith}
+use native.Mathlib.Numerals.{add-one}
+use mathlib.Core.Path.{_≡_, refl, sym, _∙_}
+use mathlib.Core.Bool.{Bool, true, false, _&&_}
+use mathlib.Core.List.{List, [], _∷_}
+use lib.Dec.{leb, ltb, eqb}
+use lib.ListN.{length, getD, drop, drop-of-length-le, List·getD-eq-default}
+use lib.Seq.{drop-cons}
+use borrow.Author.Tests.{lt-ltb, le-ltb, ltb-true, ltb-false, leb-true, leb-false, le-leb, lt-leb, eqb-true}
+use Rattle.word.specs.Word.{pick}
+use Rattle.schedule.specs.Schedule.{risingAfter, rising, accepted, inForce, passed, lineBefore}
+
+-- the place is in the schedule
+pub passed-inside : (cs : List ℕ) (clock : ℕ) → passed cs clock ≤ length cs
+unfolding passed
+passed-inside [] clock = omega arith
+passed-inside (c ∷ cs) clock = go (leb c clock) (passed-inside cs clock)
+  where
+    go : (b : Bool) → passed cs clock ≤ length cs → pick b (suc (passed cs clock)) 0 ≤ suc (length cs)
+    go true rest = omega (arith, rest)
+    go false rest = omega arith
+
+-- a record after the clock ends the walk
+pub passed-here : (cs : List ℕ) (clock place : ℕ) → place ≤ passed cs clock → place < length cs → clock < getD cs place 0 → place ≡ passed cs clock
+unfolding passed
+passed-here [] clock place reached inside after = absurd (omega (arith, inside))
+passed-here (c ∷ cs) clock zero reached inside after = rw (lt-leb c clock after)
+passed-here (c ∷ cs) clock (suc place) reached inside after =
+    go (leb c clock) reached (λ h. passed-here cs clock place h (omega (arith, inside)) after)
+  where
+    go : (b : Bool) → suc place ≤ pick b (suc (passed cs clock)) 0 → (place ≤ passed cs clock → place ≡ passed cs clock) → suc place ≡ pick b (suc (passed cs clock)) 0
+    go true h rest = let same = rest (omega (arith, h)) in omega (arith, same)
+    go false h rest = absurd (omega (arith, h))
+
+-- a record at or before the clock is passed
+pub passed-on : (cs : List ℕ) (clock place : ℕ) → place ≤ passed cs clock → place < length cs → getD cs place 0 ≤ clock → suc place ≤ passed cs clock
+unfolding passed
+passed-on [] clock place reached inside due = absurd (omega (arith, inside))
+passed-on (c ∷ cs) clock zero reached inside due = rw (le-leb c clock due) (omega arith)
+passed-on (c ∷ cs) clock (suc place) reached inside due =
+    go (leb c clock) reached (λ h. passed-on cs clock place h (omega (arith, inside)) due)
+  where
+    go : (b : Bool) → suc place ≤ pick b (suc (passed cs clock)) 0 → (place ≤ passed cs clock → suc place ≤ passed cs clock) → suc (suc place) ≤ pick b (suc (passed cs clock)) 0
+    go true h rest = let more = rest (omega (arith, h)) in omega (arith, more)
+    go false h rest = absurd (omega (arith, h))
+
+-- the place never goes back while the clock goes on
+pub passed-later : (cs : List ℕ) (clock clock′ : ℕ) → clock ≤ clock′ → passed cs clock ≤ passed cs clock′
+unfolding passed
+passed-later [] clock clock′ h = omega arith
+passed-later (c ∷ cs) clock clock′ h = go (leb c clock) refl (passed-later cs clock clock′ h)
+  where
+    go : (b : Bool) → leb c clock ≡ b → passed cs clock ≤ passed cs clock′ → pick b (suc (passed cs clock)) 0 ≤ pick (leb c clock′) (suc (passed cs clock′)) 0
+    go true e rest = let due = leb-true c clock e in rw (le-leb c clock′ (omega (arith, due, h))) (omega (arith, rest))
+    go false e rest = omega arith
+
+-- the parts of a conjunction that holds
+and-left : (a b : Bool) → a && b ≡ true → a ≡ true
+and-left true b e = refl
+and-left false b e = e
+
+and-right : (a b : Bool) → a && b ≡ true → b ≡ true
+and-right true b e = e
+and-right false true e = refl
+and-right false false e = e
+
+-- a schedule that is accepted has as many lines as cycles, and these rise
+pub accepted-same : (most : ℕ) (cs ls : List ℕ) → accepted most cs ls ≡ true → length cs ≡ length ls
+accepted-same most cs ls good = eqb-true _ _ (and-left _ (leb (length cs) most) (and-left _ (rising cs) good))
+
+pub accepted-rising : (most : ℕ) (cs ls : List ℕ) → accepted most cs ls ≡ true → rising cs ≡ true
+accepted-rising most cs ls good = and-right (eqb (length cs) (length ls) && leb (length cs) most) (rising cs) good
+
+-- records after one that is after the clock are after it too
+later : (before c : ℕ) (cs ls : List ℕ) (clock : ℕ) → risingAfter c cs ≡ true → clock < c → inForce before cs ls clock ≡ before
+unfolding risingAfter inForce
+later before c [] ls clock up after = refl
+later before c (d ∷ cs) [] clock up after = refl
+later before c (d ∷ cs) (l ∷ ls) clock up after =
+    let above = ltb-true c d (and-left (ltb c d) _ up) in
+    rw (lt-leb d clock (omega (arith, above, after)))
+    (later before d cs ls clock (and-right (ltb c d) _ up) (omega (arith, above, after)))
+
+rising-rest : (c : ℕ) (cs : List ℕ) → risingAfter c cs ≡ true → rising cs ≡ true
+unfolding risingAfter rising
+rising-rest c [] up = refl
+rising-rest c (d ∷ cs) up = and-right (ltb c d) _ up
+
+-- the line byte of a place, where `before` is the one before the records
+lineFrom : ℕ → List ℕ → ℕ → ℕ
+lineFrom before ls zero = before
+lineFrom before ls (suc k) = getD ls k 0
+
+line-from : (l : ℕ) (ls : List ℕ) (k : ℕ) → lineFrom l ls k ≡ getD (l ∷ ls) k 0
+unfolding lineFrom
+line-from l ls zero = refl
+line-from l ls (suc k) = refl
+
+in-force : (before : ℕ) (cs ls : List ℕ) (clock : ℕ) → rising cs ≡ true → length cs ≡ length ls → inForce before cs ls clock ≡ lineFrom before ls (passed cs clock)
+unfolding rising inForce passed lineFrom
+in-force before [] ls clock up same = refl
+in-force before (c ∷ cs) [] clock up same = absurd (omega (arith, same))
+in-force before (c ∷ cs) (l ∷ ls) clock up same =
+    go (leb c clock) refl (in-force l cs ls clock (rising-rest c cs up) (omega (arith, same)))
+  where
+    go : (b : Bool) → leb c clock ≡ b → inForce l cs ls clock ≡ lineFrom l ls (passed cs clock) → inForce (pick b l before) cs ls clock ≡ lineFrom before (l ∷ ls) (pick b (suc (passed cs clock)) 0)
+    go true e rest = rest ∙ line-from l ls (passed cs clock)
+    go false e rest = let after = leb-false c clock e in later before c cs ls clock up (omega (arith, after))
+
+-- the byte in force is that of the place
+pub line-of-place : (cs ls : List ℕ) (clock : ℕ) → rising cs ≡ true → length cs ≡ length ls → inForce 0 cs ls clock ≡ lineBefore ls (passed cs clock)
+unfolding lineFrom
+line-of-place cs ls clock up same = in-force 0 cs ls clock up same ∙ go (passed cs clock)
+  where
+    go : (k : ℕ) → lineFrom 0 ls k ≡ lineBefore ls k
+    go zero = refl
+    go (suc k) = refl
+
+-- past the last record there is no line byte, and within them it is that of the record before the place
+pub line-past : (ls : List ℕ) (place : ℕ) → length ls < place → 0 ≡ lineBefore ls place
+line-past ls zero past = refl
+line-past ls (suc k) past = sym (List·getD-eq-default ls 0 (omega (arith, past)))
+
+one-less : (k : ℕ) → suc k - 1 ≡ k
+one-less k = omega arith
+
+pub line-inside : (ls : List ℕ) (place : ℕ) → (place ≡ 0 → ⊥) → getD ls (place - 1) 0 ≡ lineBefore ls place
+line-inside ls zero some = absurd (some refl)
+line-inside ls (suc k) some = rw (one-less k)
+
+-- a walk over the cycle numbers: the next one is above the last, or it is not and they do not rise, or there is none
+pub rising-on : (cs : List ℕ) (last i : ℕ) → i < length cs → last < getD cs i 0 → risingAfter last (drop i cs) ≡ risingAfter (getD cs i 0) (drop (i + 1) cs)
+unfolding risingAfter
+rising-on cs last i inside up = rw (drop-cons cs i 0 inside, lt-ltb last (getD cs i 0) up, add-one i)
+
+pub rising-not : (cs : List ℕ) (last i : ℕ) → i < length cs → getD cs i 0 ≤ last → risingAfter last (drop i cs) ≡ false
+unfolding risingAfter
+rising-not cs last i inside down = rw (drop-cons cs i 0 inside, le-ltb last (getD cs i 0) down)
+
+pub rising-all : (cs : List ℕ) (last i : ℕ) → length cs ≤ i → risingAfter last (drop i cs) ≡ true
+unfolding risingAfter
+rising-all cs last i past = rw (drop-of-length-le cs {i = i} past)
+
+pub rising-none : (cs : List ℕ) → length cs ≡ 0 → true ≡ rising cs
+unfolding rising
+rising-none [] e = refl
+rising-none (c ∷ cs) e = absurd (omega (arith, e))
+
+pub rising-some : (cs : List ℕ) → (length cs ≡ 0 → ⊥) → risingAfter (getD cs 0 0) (drop 1 cs) ≡ rising cs
+unfolding rising
+rising-some [] some = absurd (some refl)
+rising-some (c ∷ cs) some = refl

@@ -1,0 +1,40 @@
+-- The schedule (document 01, "Requests" and reply 2): records, each a cycle number and a line byte, as two lists of the same length.
+use Prim.Native.Nat.{ℕ, zero, suc}
+use mathlib.Core.Bool.{Bool, true, false, _&&_}
+use mathlib.Core.List.{List, [], _∷_}
+use lib.Dec.{leb, ltb, eqb}
+use lib.ListN.{length, getD}
+use Rattle.word.specs.Word.{pick}
+
+-- the cycle numbers strictly rise, after one that is given
+unfoldable pub risingAfter : ℕ → List ℕ → Bool
+risingAfter c [] = true
+risingAfter c (d ∷ ds) = ltb c d && risingAfter d ds
+
+-- the cycle numbers strictly rise
+unfoldable pub rising : List ℕ → Bool
+rising [] = true
+rising (c ∷ cs) = risingAfter c cs
+
+-- a list of at most so many records, whose cycle numbers strictly rise
+abbrev pub accepted : ℕ → List ℕ → List ℕ → Bool
+accepted most cycles lines = (eqb (length cycles) (length lines) && leb (length cycles) most) && rising cycles
+
+-- the line byte in force at a clock value, where `before` is the one before these records: the last record's at or before it
+unfoldable pub inForce : ℕ → List ℕ → List ℕ → ℕ → ℕ
+inForce before [] lines clock = before
+inForce before (c ∷ cs) [] clock = before
+inForce before (c ∷ cs) (l ∷ ls) clock = inForce (pick (leb c clock) l before) cs ls clock
+
+-- before the first record it is 0
+abbrev pub lineAt : List ℕ → List ℕ → ℕ → ℕ
+lineAt cycles lines clock = inForce 0 cycles lines clock
+
+-- A place in the schedule: how many of its first records are at or before a clock value, and the line byte of the last of these.
+unfoldable pub passed : List ℕ → ℕ → ℕ
+passed [] clock = 0
+passed (c ∷ cs) clock = pick (leb c clock) (suc (passed cs clock)) 0
+
+abbrev pub lineBefore : List ℕ → ℕ → ℕ
+lineBefore lines zero = 0
+lineBefore lines (suc k) = getD lines k 0
