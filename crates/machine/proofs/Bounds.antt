@@ -42,7 +42,7 @@ use Rattle.machine.specs.declared.Reply.the-variants.{Done, WrongMemory,
 use Rattle.machine.specs.declared.Turn.{Turn}
 use Rattle.machine.specs.Names.{numberOf, idleCost}
 use Rattle.machine.specs.Turn.{allowedLine, entryEffect, wakeEffect, controlled, executed, turnIs, ranOf, instructed, turnOf}
-use Rattle.machine.specs.Step.{stepMemory}
+use Rattle.machine.specs.Step.{stepOf}
 use Rattle.machine.specs.Bounds.{AreBytes, EveryStepCosts, EveryStoreIsShort, OnlyTheStore}
 
 -- what an instruction's effect keeps to: its cost is the one that was decoded, and its store is short
@@ -419,6 +419,6 @@ pub every-store-is-short : EveryStoreIsShort
 every-store-is-short s m line bytes = turn-fine s m line bytes .short
 
 pub only-the-store : OnlyTheStore
-unfolding stepMemory
+unfolding stepOf
 only-the-store s m line a bytes whole free in-at in-a =
     rw free (stores-exactly m _ (runOf (turnOf s m line .effect .store)) a whole in-at (every-store-is-short s m line bytes) in-a)

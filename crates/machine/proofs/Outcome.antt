@@ -1,4 +1,4 @@
--- The answers of a step and of a reset are determined by their promises. Assumes nothing.
+-- The answers of a step, of a run and of a reset are determined by their promises. Assumes nothing.
 use Prim.Native.Nat.{ℕ}
 use mathlib.Core.Path.{_≡_, refl, sym, _∙_, ap}
 use lib.Dec.{eqb}
@@ -6,7 +6,8 @@ use Rattle.word.specs.Word.{pick}
 use Rattle.machine.specs.declared.Reply.{Reply}
 use Rattle.machine.specs.declared.Reply.the-variants.{Done, WrongMemory, WrongSchedule, PastLimit, Stopped, ReservedPostbyte}
 use Rattle.machine.specs.Names.{numberOf}
-use Rattle.machine.specs.Outcome.{OneStep, OneReset}
+use Rattle.machine.specs.End.{End}
+use Rattle.machine.specs.Outcome.{OneAnswer, OneStep, OneRun, OneReset}
 
 -- the reply of a number
 replyOf : ℕ → Reply
@@ -28,8 +29,8 @@ back ReservedPostbyte = refl
 same-reply : (r r′ : Reply) → numberOf r ≡ numberOf r′ → r ≡ r′
 same-reply r r′ e = sym (back r) ∙ (ap replyOf e ∙ back r′)
 
-pub one-step : OneStep
-one-step s m line r r′ n n′ a b = (
+one-answer : (e : End) → OneAnswer e
+one-answer e r r′ n n′ a b = (
   λ i. record {
     reply = same-reply (r .reply) (r′ .reply) (a .reply ∙ sym (b .reply)) i;
     machine = record { state = (a .state ∙ sym (b .state)) i };
@@ -37,6 +38,12 @@ one-step s m line r r′ n n′ a b = (
   },
   a .memory ∙ sym (b .memory),
 )
+
+pub one-step : OneStep
+one-step s m line = one-answer _
+
+pub one-run : OneRun
+one-run s m cycles lines budget = one-answer _
 
 pub one-reset : OneReset
 one-reset m r r′ a b = λ i. record {

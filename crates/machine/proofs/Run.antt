@@ -22,7 +22,8 @@ use Rattle.machine.specs.Names.{numberOf, recordLimit, budgetLimit, cloc
 use Rattle.machine.specs.Turn.{turnOf}
 use Rattle.machine.specs.Step.{turnCost, turnState, turnMemory}
 use Rattle.machine.specs.Bounds.{AreBytes}
-use Rattle.machine.specs.Run.{End, endsHere, after, goesOn, pastLimit, runOf, Ends, RunAnswer}
+use Rattle.machine.specs.End.{End, endsHere, Ends}
+use Rattle.machine.specs.Run.{after, goesOn, pastLimit, runOf}
 use Rattle.machine.proofs.Bounds.{every-step-costs}
 
 -- the turn at a boundary of a run
@@ -234,7 +235,7 @@ ends-spent g t is done short r reply state cycles =
 pub refused-memory :
     (s : State) (m cycles lines : List ℕ) (budget : ℕ) →
     (length m ≡ 65536 → ⊥) →
-    (r : Answer) → numberOf (r .reply) ≡ 1 → r .machine .state ≡ s → r .cycles ≡ 0 → RunAnswer s m cycles lines budget r m
+    (r : Answer) → numberOf (r .reply) ≡ 1 → r .machine .state ≡ s → r .cycles ≡ 0 → Ends (runOf s m cycles lines budget) r m
 unfolding runOf
 refused-memory s m cycles lines budget other = ends-as (rw (ne-eqb _ _ other))
 
@@ -242,7 +243,7 @@ pub refused-schedule :
     (s : State) (m cycles lines : List ℕ) (budget : ℕ) →
     length m ≡ 65536 →
     accepted recordLimit cycles lines ≡ false →
-    (r : Answer) → numberOf (r .reply) ≡ 2 → r .machine .state ≡ s → r .cycles ≡ 0 → RunAnswer s m cycles lines budget r m
+    (r : Answer) → numberOf (r .reply) ≡ 2 → r .machine .state ≡ s → r .cycles ≡ 0 → Ends (runOf s m cycles lines budget) r m
 unfolding runOf
 refused-schedule s m cycles lines budget whole other = ends-as (rw (eq-eqb _ _ whole, other))
 
@@ -251,7 +252,7 @@ pub refused-limit :
     length m ≡ 65536 →
     accepted recordLimit cycles lines ≡ true →
     pastLimit (s .clock) budget ≡ true →
-    (r : Answer) → numberOf (r .reply) ≡ 3 → r .machine .state ≡ s → r .cycles ≡ 0 → RunAnswer s m cycles lines budget r m
+    (r : Answer) → numberOf (r .reply) ≡ 3 → r .machine .state ≡ s → r .cycles ≡ 0 → Ends (runOf s m cycles lines budget) r m
 unfolding runOf
 refused-limit s m cycles lines budget whole good past = ends-as (rw (eq-eqb _ _ whole, good, past))
 

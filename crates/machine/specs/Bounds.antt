@@ -11,7 +11,7 @@ use Rattle.memory.specs.Memory.{byteAt, runOf}
 use Rattle.state.specs.declared.State.{State}
 use Rattle.machine.specs.declared.Reply.the-variants.{Done}
 use Rattle.machine.specs.Turn.{turnOf}
-use Rattle.machine.specs.Step.{refusal, stepCycles, stepMemory}
+use Rattle.machine.specs.Step.{refusal, stepOf}
 
 -- a memory holds bytes
 abbrev pub AreBytes : List ℕ → Type 0
@@ -39,7 +39,7 @@ OnlyTheStore =
     refusal s m ≡ 0 →
     turnOf s m line .effect .store .at < 65536 →
     a < 65536 →
-    byteAt (stepMemory s m line) a
+    byteAt (stepOf s m line .memory) a
     ≡ pick (ltb (minusW a (turnOf s m line .effect .store .at)) (length (runOf (turnOf s m line .effect .store))))
     (getD (runOf (turnOf s m line .effect .store)) (minusW a (turnOf s m line .effect .store .at)) 0)
     (byteAt m a)

@@ -1,5 +1,5 @@
--- No second outcome satisfies the promise of a step or of a reset: two answers that both meet it are the same, and so are the
--- memories. Each is proved under the same name in proofs/Outcome.antt.
+-- No second outcome satisfies the promise of a step, of a run or of a reset: two answers that both meet it are the same, and so are
+-- the memories. Each is proved under the same name in proofs/Outcome.antt.
 use Prim.Native.Nat.{ℕ}
 use mathlib.Core.Path.{_≡_}
 use mathlib.Core.List.{List}
@@ -7,12 +7,19 @@ use Rattle.state.specs.declared.State.{State}
 use Rattle.machine.specs.declared.Answer.{Answer}
 use Rattle.machine.specs.declared.Started.{Started}
 use Rattle.machine.specs.Names.{numberOf}
-use Rattle.machine.specs.Step.{StepAnswer, resetReply, resetOf}
+use Rattle.machine.specs.End.{End, Ends}
+use Rattle.machine.specs.Step.{stepOf, resetReply, resetOf}
+use Rattle.machine.specs.Run.{runOf}
+
+-- an end has one answer and one memory
+abbrev pub OneAnswer : End → Type 0
+OneAnswer e = (r r′ : Answer) (n n′ : List ℕ) → Ends e r n → Ends e r′ n′ → (r ≡ r′) × (n ≡ n′)
 
 abbrev pub OneStep : Type 0
-OneStep =
-    (s : State) (m : List ℕ) (line : ℕ) (r r′ : Answer) (n n′ : List ℕ) →
-    StepAnswer s m line r n → StepAnswer s m line r′ n′ → (r ≡ r′) × (n ≡ n′)
+OneStep = (s : State) (m : List ℕ) (line : ℕ) → OneAnswer (stepOf s m line)
+
+abbrev pub OneRun : Type 0
+OneRun = (s : State) (m cycles lines : List ℕ) (budget : ℕ) → OneAnswer (runOf s m cycles lines budget)
 
 abbrev pub OneReset : Type 0
 OneReset =

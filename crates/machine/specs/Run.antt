@@ -1,7 +1,6 @@
 -- A run: steps taken one after another, each under the line byte in force at its boundary's clock (document 01, "Numbered replies",
 -- "Requests").
 use Prim.Native.Nat.{ℕ, zero, suc, _+_, _-_}
-use mathlib.Core.Path.{_≡_}
 use mathlib.Core.Bool.{Bool, true, false, not, _||_}
 use mathlib.Core.List.{List}
 use lib.Dec.{ltb, eqb}
@@ -9,21 +8,10 @@ use lib.ListN.{length}
 use Rattle.word.specs.Word.{pick}
 use Rattle.state.specs.declared.State.{State}
 use Rattle.schedule.specs.Schedule.{accepted, lineAt}
-use Rattle.machine.specs.declared.Answer.{Answer}
 use Rattle.machine.specs.Names.{numberOf, memorySize, recordLimit, budgetLimit, clockLimit}
 use Rattle.machine.specs.Turn.{turnOf}
+use Rattle.machine.specs.End.{End, endsHere}
 use Rattle.machine.specs.Step.{turnCost, turnState, turnMemory}
-
--- how a run ends: the reply's number, the state, the memory, and the cycles used
-pub record End : Type 0 where
-  pub reply : ℕ
-  pub state : State
-  pub memory : List ℕ
-  pub cycles : ℕ
-
--- an end at this boundary
-abbrev pub endsHere : ℕ → State → List ℕ → End
-endsHere reply s m = record { reply = reply; state = s; memory = m; cycles = 0 }
 
 -- an end that comes after so many cycles more
 abbrev pub after : ℕ → End → End
@@ -56,14 +44,3 @@ unfoldable pub runOf : State → List ℕ → List ℕ → List ℕ → ℕ → 
 runOf s m cycles lines budget =
     let refused = runRefusal s m cycles lines budget in
     pick (eqb refused 0) (goesOn (suc budget) cycles lines s m budget) (endsHere refused s m)
-
--- an answer r and the memory m′ at exit are this end
-pub record Ends (e : End) (r : Answer) (m′ : List ℕ) : Type 0 where
-  pub reply : numberOf (r .reply) ≡ e .reply
-  pub state : r .machine .state ≡ e .state
-  pub cycles : r .cycles ≡ e .cycles
-  pub memory : m′ ≡ e .memory
-
--- What a run promises of its answer r and of the memory m′ that it leaves.
-abbrev pub RunAnswer : State → List ℕ → List ℕ → List ℕ → ℕ → Answer → List ℕ → Type 0
-RunAnswer s m cycles lines budget r m′ = Ends (runOf s m cycles lines budget) r m′

@@ -1,6 +1,5 @@
 -- Reset and a single step: reply, state, cycles used and all bytes, for every input (document 01, "Numbered replies").
 use Prim.Native.Nat.{ℕ, _+_}
-use mathlib.Core.Path.{_≡_}
 use mathlib.Core.Bool.{Bool, true, not}
 use mathlib.Core.List.{List}
 use lib.Dec.{ltb, eqb}
@@ -13,10 +12,10 @@ use Rattle.state.specs.Ccr.{noFlags, setS, setX, setI}
 use Rattle.state.specs.State.{noState, withPc, withFlags, withClock}
 use Rattle.machine.specs.declared.Reply.{Reply}
 use Rattle.machine.specs.declared.Machine.{Machine}
-use Rattle.machine.specs.declared.Answer.{Answer}
 use Rattle.machine.specs.declared.Turn.{Turn}
 use Rattle.machine.specs.Names.{numberOf, memorySize, stepLimit, resetVector}
 use Rattle.machine.specs.Turn.{turnOf}
+use Rattle.machine.specs.End.{End, endsHere}
 
 -- S, X and I set, everything else clear, and PC as given
 abbrev pub resetState : ℕ → State
@@ -43,22 +42,14 @@ turnState s m line = withClock (turnOf s m line .effect .state) (s .clock + turn
 abbrev pub turnMemory : State → List ℕ → ℕ → List ℕ
 turnMemory s m line = committed m (turnOf s m line .effect .store)
 
--- a step's reply, the state after, the cycles used and the memory after
-unfoldable pub stepReply : State → List ℕ → ℕ → ℕ
-stepReply s m line = pick (eqb (refusal s m) 0) (numberOf (turnOf s m line .reply)) (refusal s m)
-
-unfoldable pub stepCycles : State → List ℕ → ℕ → ℕ
-stepCycles s m line = pick (eqb (refusal s m) 0) (turnCost s m line) 0
-
-unfoldable pub stepState : State → List ℕ → ℕ → State
-stepState s m line = pick (eqb (refusal s m) 0) (turnState s m line) s
-
-unfoldable pub stepMemory : State → List ℕ → ℕ → List ℕ
-stepMemory s m line = pick (eqb (refusal s m) 0) (turnMemory s m line) m
-
--- What a step promises of its answer r and of the memory m′ that it leaves.
-pub record StepAnswer (s : State) (m : List ℕ) (line : ℕ) (r : Answer) (m′ : List ℕ) : Type 0 where
-  pub reply : numberOf (r .reply) ≡ stepReply s m line
-  pub state : r .machine .state ≡ stepState s m line
-  pub cycles : r .cycles ≡ stepCycles s m line
-  pub memory : m′ ≡ stepMemory s m line
+-- a step: refused it leaves all as it was
+unfoldable pub stepOf : State → List ℕ → ℕ → End
+stepOf s m line =
+    pick (eqb (refusal s m) 0)
+    (record {
+      reply = numberOf (turnOf s m line .reply);
+      state = turnState s m line;
+      memory = turnMemory s m line;
+      cycles = turnCost s m line;
+    })
+    (endsHere (refusal s m) s m)

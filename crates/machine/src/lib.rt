@@ -15,8 +15,9 @@ ghost use Rattle.schedule.specs.Schedule.{rising};
 ghost use Rattle.opcodes.specs.Map.{opcodeMap};
 ghost use Rattle.machine.specs.Names.{numberOf, lineVector, budgetLimit, clockLimit};
 ghost use Rattle.machine.specs.Turn.{lowestLine, allowedLine, masked as maskedOf, entryEffect, wakeEffect, controlled as controlledOf, executed as executedOf, turnIs, ranOf, turnOf, instructed as instructedOf};
-ghost use Rattle.machine.specs.Step.{resetState, resetReply, resetOf, StepAnswer};
-ghost use Rattle.machine.specs.Run.{Ends, goesOn, pastLimit, RunAnswer};
+ghost use Rattle.machine.specs.End.{Ends};
+ghost use Rattle.machine.specs.Step.{resetState, resetReply, resetOf, stepOf};
+ghost use Rattle.machine.specs.Run.{goesOn, pastLimit, runOf};
 
 // Document 01's replies; `numberOf` in specs/Names.antt gives the number of each.
 pub enum Reply {
@@ -338,7 +339,7 @@ impl Machine {
 
     // One step under the line byte `line`. Refused or stopped, it changes no register and no byte.
     pub fn step(self, m: &mut [u8], line: u8) -> Answer
-        ensures { λ r. ⌜ StepAnswer (self .state) (now (m .entry)) line r (now (m .exit)) ⌝ }
+        ensures { λ r. ⌜ Ends (stepOf (self .state) (now (m .entry)) line) r (now (m .exit)) ⌝ }
     {
         let s = self.state;
         if m.len() != Machine::MEMORY {
@@ -360,7 +361,7 @@ impl Machine {
 
     // Steps, each under the line byte in force at its boundary, until one costs more than is left of the budget or the machine stops.
     pub fn run(self, m: &mut [u8], cycles: &[u32], lines: &[u8], budget: u32) -> Answer
-        ensures { λ r. ⌜ RunAnswer (self .state) (now (m .entry)) (now (cycles .entry)) (now (lines .entry)) budget r (now (m .exit)) ⌝ }
+        ensures { λ r. ⌜ Ends (runOf (self .state) (now (m .entry)) (now (cycles .entry)) (now (lines .entry)) budget) r (now (m .exit)) ⌝ }
     {
         let s = self.state;
         if m.len() != Machine::MEMORY {

@@ -1,12 +1,12 @@
 use borrow.Author.Needs.{needs}
 use borrow.Author.Tests.{eq-eqb, ne-eqb, lt-ltb, le-ltb}
 use mathlib.Core.Path.{refl}
-use Rattle.machine.specs.Step.{stepReply, stepState, stepCycles, stepMemory}
+use Rattle.machine.specs.Step.{stepOf}
 use Rattle.machine.proofs.Machine.step.Statement.{statement}
 use Rattle.machine.proofs.Machine.step.Tie as tie
 
 wrong-memory : tie.Need-returns
-unfolding stepReply stepState stepCycles stepMemory
+unfolding stepOf
 wrong-memory c =
     let asked = c .before in
     let other = ne-eqb _ _ (asked .if1 .taken) in
@@ -18,7 +18,7 @@ wrong-memory c =
     }
 
 past-limit : tie.Need-returns-2
-unfolding stepReply stepState stepCycles stepMemory
+unfolding stepOf
 past-limit c =
     let asked = c .before in
     let whole = asked .before .before in
@@ -32,7 +32,7 @@ past-limit c =
     }
 
 done : tie.Need-returns-3
-unfolding stepReply stepState stepCycles stepMemory
+unfolding stepOf
 done c =
     let found = c .before .before .before .before .before .before .before .before .before .before .before in
     let passed = found .before .before .before .before in
