@@ -42,7 +42,7 @@ weight-most : (t : Bool) (w : ℕ) → weightOf t w ≤ w
 weight-most true w = omega arith
 weight-most false w = omega arith
 
-ccr-below : (f : Flags) → ccrOf f < 256
+pub ccr-below : (f : Flags) → ccrOf f < 256
 ccr-below f =
     omega (
       arith,
@@ -85,7 +85,7 @@ ignores-bit-3 s p l =
     same (no h) = let less : p < 128 = omega arith in rw (lt-leb 128 p less, lt-leb 128 (p + 8) (omega arith))
 
 -- what holds of both holds of the one that is picked
-both : (P : State → Type 0) (t : Bool) (a b : State) → P a → P b → P (pick t a b)
+pub both : {A : Type 0} (P : A → Type 0) (t : Bool) (a b : A) → P a → P b → P (pick t a b)
 both P true a b p q = p
 both P false a b p q = q
 

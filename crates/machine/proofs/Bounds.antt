@@ -7,10 +7,9 @@ use mathlib.Core.List.{List}
 use lib.Dec.{leb, ltb, eqb}
 use native.Mathlib.Decide.{ℕ-discrete}
 use borrow.Author.Tests.{eq-eqb, ne-eqb}
-use lib.ListN.{length, getD}
-use Rattle.word.specs.Word.{pick, bitOf, plusW, minusW, extend8}
-use Rattle.memory.specs.Memory.{byteAt, wordAt, runOf, storeByte, storeWord, storeWords}
-use Rattle.memory.proofs.Laws.{stores-exactly}
+use lib.ListN.{length}
+use Rattle.word.specs.Word.{pick, plusW, minusW}
+use Rattle.memory.specs.Memory.{byteAt, runOf, storeByte, storeWord, storeWords}
 use Rattle.state.specs.declared.State.{State}
 use Rattle.state.specs.State.{withA, withB, withD, withX, withY, withSp, dOf}
 use Rattle.alu.specs.Alu.{allClear, allSet}
@@ -19,8 +18,8 @@ use Rattle.codes.specs.Loops.{turnByte, turnWord}
 use Rattle.operand.specs.Operand.{operandPlace}
 use Rattle.opcodes.specs.declared.Cell.{Cell}
 use Rattle.opcodes.specs.Kind.{SWI, TRAP}
-use Rattle.opcodes.specs.Map.{cellOf, cellNumber}
-use Rattle.opcodes.specs.Postbyte.{reservedOf, costOf, untakenOf}
+use Rattle.opcodes.specs.Map.{cellNumber}
+use Rattle.opcodes.specs.Postbyte.{reservedOf, untakenOf}
 use Rattle.opcodes.specs.Rules.{stopsOf, prebyteCell, runs}
 use Rattle.opcodes.proofs.Cells.{cell-number-below, every-cell, every-instruction}
 use Rattle.operand.specs.declared.Place.{Place}
@@ -38,12 +37,12 @@ use Rattle.flow.specs.Stack.{stacked, frameStore, stackEffect, subroutineEffect
 use Rattle.flow.specs.Jumps.{jumpEffect}
 use Rattle.flow.specs.Moves.{bitsEffect, byteMoveEffect, wordMoveEffect, addressEffect, moveEffect}
 use Rattle.machine.specs.declared.Reply.{Reply}
-use Rattle.machine.specs.declared.Reply.the-variants.{Done, WrongMemory, WrongSchedule, PastLimit, Stopped, ReservedPostbyte}
+use Rattle.machine.specs.declared.Reply.the-variants.{Done, Stopped, ReservedPostbyte}
 use Rattle.machine.specs.declared.Turn.{Turn}
 use Rattle.machine.specs.Names.{numberOf, idleCost}
-use Rattle.machine.specs.Turn.{allowedLine, entryEffect, wakeEffect, controlled, executed, turnIs, ranOf, instructed, turnOf}
-use Rattle.machine.specs.Step.{stepOf}
-use Rattle.machine.specs.Bounds.{AreBytes, EveryStepCosts, EveryStoreIsShort, OnlyTheStore}
+use Rattle.machine.specs.Turn.{allowedLine, entryEffect, wakeEffect, controlled, executed, turnIs, instructed, turnOf}
+use Rattle.machine.specs.Bounds.{AreBytes, EveryStepCosts, EveryStoreIsShort}
+use Rattle.codes.proofs.Laws.{both}
 
 -- what an instruction's effect keeps to: its cost is the one that was decoded, and its store is short
 record Kept (cost : ℕ) (e : Effect) : Type 0 where
@@ -53,11 +52,6 @@ record Kept (cost : ℕ) (e : Effect) : Type 0 where
 -- the stores that the definitions make have at most nine bytes
 quiet-kept : (s : State) (cost : ℕ) → Kept cost (quiet s cost)
 quiet-kept s cost = record { price = refl; short = omega arith }
-
--- either way
-either : (b : Bool) (cost : ℕ) (x y : Effect) → Kept cost x → Kept cost y → Kept cost (pick b x y)
-either true cost x y p q = p
-either false cost x y p q = q
 
 byte-kept : (s : State) (cost a v : ℕ) → Kept cost (writes s cost (storeByte a v))
 byte-kept s cost a v = record { price = refl; short = omega arith }
@@ -83,7 +77,7 @@ with-b s m d = quiet-kept _ _
 
 in-memory : (s : State) (m : List ℕ) (d : Decoded) → Kept (d .cost) (inMemoryEffect s m d)
 unfolding inMemoryEffect
-in-memory s m d = either (eqb (d .kind % 16) 0xA) _ _ _ (quiet-kept _ _) (byte-kept _ _ _ _)
+in-memory s m d = both (Kept (d .cost)) (eqb (d .kind % 16) 0xA) _ _ (quiet-kept _ _) (byte-kept _ _ _ _)
 
 in-a : (s : State) (d : Decoded) → Kept (d .cost) (inAEffect s d)
 unfolding inAEffect
@@ -104,11 +98,11 @@ inherent s m d = quiet-kept _ _
 storing : (member : ℕ) (s : State) (cost a : ℕ) → Kept cost (stored member s cost a)
 unfolding stored
 storing member s cost a =
-    either (eqb member 0xA) cost _ _ (byte-kept _ _ _ _)
-    (either (eqb member 0xB) cost _ _ (byte-kept _ _ _ _)
-    (either (eqb member 0xC) cost _ _ (word-kept _ _ _ _)
-    (either (eqb member 0xD) cost _ _ (word-kept _ _ _ _)
-    (either (eqb member 0xE) cost _ _ (word-kept _ _ _ _)
+    both (Kept cost) (eqb member 0xA) _ _ (byte-kept _ _ _ _)
+    (both (Kept cost) (eqb member 0xB) _ _ (byte-kept _ _ _ _)
+    (both (Kept cost) (eqb member 0xC) _ _ (word-kept _ _ _ _)
+    (both (Kept cost) (eqb member 0xD) _ _ (word-kept _ _ _ _)
+    (both (Kept cost) (eqb member 0xE) _ _ (word-kept _ _ _ _)
     (word-kept _ _ _ _)))))
 
 store : (s : State) (m : List ℕ) (d : Decoded) → Kept (d .cost) (storeEffect s m d)
@@ -118,13 +112,13 @@ store s m d = storing _ _ _ _
 choosing : (member : ℕ) (s : State) (m : List ℕ) (cost a : ℕ) → Kept cost (chosen member s m cost a)
 unfolding chosen
 choosing member s m cost a =
-    either (eqb member 0x0) cost _ _ (quiet-kept _ _)
-    (either (eqb member 0x1) cost _ _ (quiet-kept _ _)
-    (either (eqb member 0x2) cost _ _ (quiet-kept _ _)
-    (either (eqb member 0x3) cost _ _ (quiet-kept _ _)
-    (either (eqb member 0x4) cost _ _ (byte-kept _ _ _ _)
-    (either (eqb member 0x5) cost _ _ (byte-kept _ _ _ _)
-    (either (eqb member 0x6) cost _ _ (word-kept _ _ _ _)
+    both (Kept cost) (eqb member 0x0) _ _ (quiet-kept _ _)
+    (both (Kept cost) (eqb member 0x1) _ _ (quiet-kept _ _)
+    (both (Kept cost) (eqb member 0x2) _ _ (quiet-kept _ _)
+    (both (Kept cost) (eqb member 0x3) _ _ (quiet-kept _ _)
+    (both (Kept cost) (eqb member 0x4) _ _ (byte-kept _ _ _ _)
+    (both (Kept cost) (eqb member 0x5) _ _ (byte-kept _ _ _ _)
+    (both (Kept cost) (eqb member 0x6) _ _ (word-kept _ _ _ _)
     (word-kept _ _ _ _)))))))
 
 choose : (s : State) (m : List ℕ) (d : Decoded) → Kept (d .cost) (chooseEffect s m d)
@@ -138,23 +132,23 @@ accumulate s m cost a = words-kept _ _ _ _ _
 product : (s : State) (m : List ℕ) (d : Decoded) → Kept (d .cost) (productEffect s m d)
 unfolding productEffect
 product s m d =
-    either (eqb (d .kind % 16) 0x3) (d .cost) _ _ (accumulate _ _ _ _)
-    (either (leb 0x9 (d .kind % 16)) (d .cost) _ _ (quiet-kept _ _) (quiet-kept _ _))
+    both (Kept (d .cost)) (eqb (d .kind % 16) 0x3) _ _ (accumulate _ _ _ _)
+    (both (Kept (d .cost)) (leb 0x9 (d .kind % 16)) _ _ (quiet-kept _ _) (quiet-kept _ _))
 
 stacking : (member : ℕ) (s : State) (m : List ℕ) (cost : ℕ) → Kept cost (stacked member s m cost)
 unfolding stacked
 stacking member s m cost =
-    either (eqb member 0x0) cost _ _ (quiet-kept _ _)
-    (either (eqb member 0x1) cost _ _ (quiet-kept _ _)
-    (either (eqb member 0x2) cost _ _ (quiet-kept _ _)
-    (either (eqb member 0x3) cost _ _ (quiet-kept _ _)
-    (either (eqb member 0x4) cost _ _ (word-kept _ _ _ _)
-    (either (eqb member 0x5) cost _ _ (word-kept _ _ _ _)
-    (either (eqb member 0x6) cost _ _ (byte-kept _ _ _ _)
-    (either (eqb member 0x7) cost _ _ (byte-kept _ _ _ _)
-    (either (eqb member 0x8) cost _ _ (quiet-kept _ _)
-    (either (eqb member 0x9) cost _ _ (byte-kept _ _ _ _)
-    (either (eqb member 0xA) cost _ _ (quiet-kept _ _)
+    both (Kept cost) (eqb member 0x0) _ _ (quiet-kept _ _)
+    (both (Kept cost) (eqb member 0x1) _ _ (quiet-kept _ _)
+    (both (Kept cost) (eqb member 0x2) _ _ (quiet-kept _ _)
+    (both (Kept cost) (eqb member 0x3) _ _ (quiet-kept _ _)
+    (both (Kept cost) (eqb member 0x4) _ _ (word-kept _ _ _ _)
+    (both (Kept cost) (eqb member 0x5) _ _ (word-kept _ _ _ _)
+    (both (Kept cost) (eqb member 0x6) _ _ (byte-kept _ _ _ _)
+    (both (Kept cost) (eqb member 0x7) _ _ (byte-kept _ _ _ _)
+    (both (Kept cost) (eqb member 0x8) _ _ (quiet-kept _ _)
+    (both (Kept cost) (eqb member 0x9) _ _ (byte-kept _ _ _ _)
+    (both (Kept cost) (eqb member 0xA) _ _ (quiet-kept _ _)
     (word-kept _ _ _ _)))))))))))
 
 stack : (s : State) (m : List ℕ) (d : Decoded) → Kept (d .cost) (stackEffect s m d)
@@ -162,7 +156,7 @@ unfolding stackEffect
 stack s m d = stacking _ _ _ _
 
 branch : (s : State) (taken : Bool) (offset cost : ℕ) → Kept cost (branched s taken offset cost cost)
-branch s taken offset cost = either taken cost _ _ (quiet-kept _ _) (quiet-kept _ _)
+branch s taken offset cost = both (Kept cost) taken _ _ (quiet-kept _ _) (quiet-kept _ _)
 
 bit-branch : (s : State) (m : List ℕ) (d : Decoded) (set : Bool) → Kept (d .cost) (bitBranchEffect s m d set)
 unfolding bitBranchEffect
@@ -175,11 +169,11 @@ bit-branch s m d set =
 looping : (counter : ℕ) (s : State) (kind offset cost : ℕ) → Kept cost (looped counter s kind offset cost)
 unfolding looped
 looping counter s kind offset cost =
-    either (eqb counter 0) cost _ _ (branch (withA s (turnByte kind (s .a) .counter)) (turnByte kind (s .a) .taken) offset cost)
-    (either (eqb counter 1) cost _ _ (branch (withB s (turnByte kind (s .b) .counter)) (turnByte kind (s .b) .taken) offset cost)
-    (either (eqb counter 4) cost _ _ (branch (withD s (turnWord kind (dOf s) .counter)) (turnWord kind (dOf s) .taken) offset cost)
-    (either (eqb counter 5) cost _ _ (branch (withX s (turnWord kind (s .x) .counter)) (turnWord kind (s .x) .taken) offset cost)
-    (either (eqb counter 6) cost _ _ (branch (withY s (turnWord kind (s .y) .counter)) (turnWord kind (s .y) .taken) offset cost)
+    both (Kept cost) (eqb counter 0) _ _ (branch (withA s (turnByte kind (s .a) .counter)) (turnByte kind (s .a) .taken) offset cost)
+    (both (Kept cost) (eqb counter 1) _ _ (branch (withB s (turnByte kind (s .b) .counter)) (turnByte kind (s .b) .taken) offset cost)
+    (both (Kept cost) (eqb counter 4) _ _ (branch (withD s (turnWord kind (dOf s) .counter)) (turnWord kind (dOf s) .taken) offset cost)
+    (both (Kept cost) (eqb counter 5) _ _ (branch (withX s (turnWord kind (s .x) .counter)) (turnWord kind (s .x) .taken) offset cost)
+    (both (Kept cost) (eqb counter 6) _ _ (branch (withY s (turnWord kind (s .y) .counter)) (turnWord kind (s .y) .taken) offset cost)
     (branch (withSp s (turnWord kind (s .sp) .counter)) (turnWord kind (s .sp) .taken) offset cost)))))
 
 loop : (s : State) (m : List ℕ) (d : Decoded) → Kept (d .cost) (loopEffect s m d)
@@ -205,19 +199,19 @@ wait s cost = frame-kept _ s _
 jump : (s : State) (m : List ℕ) (d : Decoded) → Kept (d .cost) (jumpEffect s m d)
 unfolding jumpEffect
 jump s m d =
-    either (eqb (d .kind % 16) 0x0) (d .cost) _ _ (quiet-kept _ _)
-    (either (eqb (d .kind % 16) 0x1) (d .cost) _ _ (subroutine _ _ _)
-    (either (eqb (d .kind % 16) 0x2) (d .cost) _ _ (subroutine _ _ _)
-    (either (eqb (d .kind % 16) 0x3) (d .cost) _ _ (return _ _ _)
-    (either (eqb (d .kind % 16) 0x4) (d .cost) _ _ (quiet-kept _ _)
-    (either (eqb (d .kind % 16) 0x7) (d .cost) _ _ (wait _ _)
+    both (Kept (d .cost)) (eqb (d .kind % 16) 0x0) _ _ (quiet-kept _ _)
+    (both (Kept (d .cost)) (eqb (d .kind % 16) 0x1) _ _ (subroutine _ _ _)
+    (both (Kept (d .cost)) (eqb (d .kind % 16) 0x2) _ _ (subroutine _ _ _)
+    (both (Kept (d .cost)) (eqb (d .kind % 16) 0x3) _ _ (return _ _ _)
+    (both (Kept (d .cost)) (eqb (d .kind % 16) 0x4) _ _ (quiet-kept _ _)
+    (both (Kept (d .cost)) (eqb (d .kind % 16) 0x7) _ _ (wait _ _)
     (loop s m d))))))
 
 control : (s : State) (m : List ℕ) (d : Decoded) → Kept (d .cost) (controlled s m d)
 unfolding controlled
 control s m d =
-    either (eqb (d .kind) SWI) (d .cost) _ _ (interrupt _ _ _ _)
-    (either (eqb (d .kind) TRAP) (d .cost) _ _ (interrupt _ _ _ _) (jump s m d))
+    both (Kept (d .cost)) (eqb (d .kind) SWI) _ _ (interrupt _ _ _ _)
+    (both (Kept (d .cost)) (eqb (d .kind) TRAP) _ _ (interrupt _ _ _ _) (jump s m d))
 
 change-bits : (s : State) (m : List ℕ) (d : Decoded) (set : Bool) → Kept (d .cost) (bitsEffect s m d set)
 unfolding bitsEffect
@@ -234,19 +228,19 @@ move-word s m d = word-kept _ _ _ _
 address : (member : ℕ) (place : Place) (cost : ℕ) → Kept cost (addressEffect member place cost)
 unfolding addressEffect
 address member place cost =
-    either (eqb member 0x0) cost _ _ (quiet-kept _ _)
-    (either (eqb member 0x1) cost _ _ (quiet-kept _ _)
+    both (Kept cost) (eqb member 0x0) _ _ (quiet-kept _ _)
+    (both (Kept cost) (eqb member 0x1) _ _ (quiet-kept _ _)
     (quiet-kept _ _))
 
 move : (s : State) (m : List ℕ) (d : Decoded) → Kept (d .cost) (moveEffect s m d)
 unfolding moveEffect
 move s m d =
-    either (eqb (d .kind % 16) 0x3) (d .cost) _ _ (change-bits s m d true)
-    (either (eqb (d .kind % 16) 0x4) (d .cost) _ _ (change-bits s m d false)
-    (either (eqb (d .kind % 16) 0x5) (d .cost) _ _ (bit-branch s m d true)
-    (either (eqb (d .kind % 16) 0x6) (d .cost) _ _ (bit-branch s m d false)
-    (either (eqb (d .kind % 16) 0x7) (d .cost) _ _ (move-byte s m d)
-    (either (eqb (d .kind % 16) 0x8) (d .cost) _ _ (move-word s m d)
+    both (Kept (d .cost)) (eqb (d .kind % 16) 0x3) _ _ (change-bits s m d true)
+    (both (Kept (d .cost)) (eqb (d .kind % 16) 0x4) _ _ (change-bits s m d false)
+    (both (Kept (d .cost)) (eqb (d .kind % 16) 0x5) _ _ (bit-branch s m d true)
+    (both (Kept (d .cost)) (eqb (d .kind % 16) 0x6) _ _ (bit-branch s m d false)
+    (both (Kept (d .cost)) (eqb (d .kind % 16) 0x7) _ _ (move-byte s m d)
+    (both (Kept (d .cost)) (eqb (d .kind % 16) 0x8) _ _ (move-word s m d)
     (address _ _ _))))))
 
 -- an effect whose cost is 1 to 13 and whose store is short
@@ -258,20 +252,16 @@ record Good (e : Effect) : Type 0 where
 good : {cost : ℕ} {e : Effect} → 1 ≤ cost → cost ≤ 13 → Kept cost e → Good e
 good l h k = record { low = rw (k .price) l; high = rw (k .price) h; short = k .short }
 
-choice : (b : Bool) (x y : Effect) → Good x → Good y → Good (pick b x y)
-choice true x y p q = p
-choice false x y p q = q
-
 -- the groups of the branches have a cost of their own where they are not taken
 short-branch : (s : State) (m : List ℕ) (d : Decoded) → 1 ≤ d .cost → d .cost ≤ 13 → 1 ≤ d .untaken → d .untaken ≤ 13 → Good (shortEffect s m d)
 unfolding shortEffect
 short-branch s m d l h l′ h′ =
-    choice (conditionOf (s .flags) (d .kind % 16)) _ _ (good l h (quiet-kept _ _)) (good l′ h′ (quiet-kept _ _))
+    both Good (conditionOf (s .flags) (d .kind % 16)) _ _ (good l h (quiet-kept _ _)) (good l′ h′ (quiet-kept _ _))
 
 long-branch : (s : State) (m : List ℕ) (d : Decoded) → 1 ≤ d .cost → d .cost ≤ 13 → 1 ≤ d .untaken → d .untaken ≤ 13 → Good (longEffect s m d)
 unfolding longEffect
 long-branch s m d l h l′ h′ =
-    choice (conditionOf (s .flags) (d .kind % 16)) _ _ (good l h (quiet-kept _ _)) (good l′ h′ (quiet-kept _ _))
+    both Good (conditionOf (s .flags) (d .kind % 16)) _ _ (good l h (quiet-kept _ _)) (good l′ h′ (quiet-kept _ _))
 
 -- every group but those of the branches, one after the other
 other-groups : (group : ℕ) (s : State) (m : List ℕ) (d : Decoded) → Kept (d .cost)
@@ -287,18 +277,18 @@ other-groups : (group : ℕ) (s : State) (m : List ℕ) (d : Decoded) → Kept (
     (pick (eqb group 0xC) (stackEffect s m d)
     (pick (eqb group 0xD) (controlled s m d) (pick (eqb group 0xE) (moveEffect s m d) (chooseEffect s m d)))))))))))))
 other-groups group s m d =
-    either (eqb group 0x3) (d .cost) _ _ (with-a s m d)
-    (either (eqb group 0x4) (d .cost) _ _ (with-b s m d)
-    (either (eqb group 0x5) (d .cost) _ _ (with-word s m d)
-    (either (eqb group 0x6) (d .cost) _ _ (store s m d)
-    (either (eqb group 0x7) (d .cost) _ _ (in-memory s m d)
-    (either (eqb group 0x8) (d .cost) _ _ (in-a s d)
-    (either (eqb group 0x9) (d .cost) _ _ (in-b s d)
-    (either (eqb group 0xA) (d .cost) _ _ (inherent s m d)
-    (either (eqb group 0xB) (d .cost) _ _ (product s m d)
-    (either (eqb group 0xC) (d .cost) _ _ (stack s m d)
-    (either (eqb group 0xD) (d .cost) _ _ (control s m d)
-    (either (eqb group 0xE) (d .cost) _ _ (move s m d) (choose s m d))))))))))))
+    both (Kept (d .cost)) (eqb group 0x3) _ _ (with-a s m d)
+    (both (Kept (d .cost)) (eqb group 0x4) _ _ (with-b s m d)
+    (both (Kept (d .cost)) (eqb group 0x5) _ _ (with-word s m d)
+    (both (Kept (d .cost)) (eqb group 0x6) _ _ (store s m d)
+    (both (Kept (d .cost)) (eqb group 0x7) _ _ (in-memory s m d)
+    (both (Kept (d .cost)) (eqb group 0x8) _ _ (in-a s d)
+    (both (Kept (d .cost)) (eqb group 0x9) _ _ (in-b s d)
+    (both (Kept (d .cost)) (eqb group 0xA) _ _ (inherent s m d)
+    (both (Kept (d .cost)) (eqb group 0xB) _ _ (product s m d)
+    (both (Kept (d .cost)) (eqb group 0xC) _ _ (stack s m d)
+    (both (Kept (d .cost)) (eqb group 0xD) _ _ (control s m d)
+    (both (Kept (d .cost)) (eqb group 0xE) _ _ (move s m d) (choose s m d))))))))))))
 
 -- an instruction that costs 1 to 13, and where it is a branch that is not taken 1 to 13 too
 execute : (s : State) (m : List ℕ) (d : Decoded) → 1 ≤ d .cost → d .cost ≤ 13 → (d .kind / 16 < 3 → 1 ≤ d .kind / 16 → 1 ≤ d .untaken) → d .untaken ≤ 13 → Good (executed s m d)
@@ -372,10 +362,6 @@ record Fine (t : Turn) : Type 0 where
   high : t .reply ≡ Done → t .effect .cost ≤ 13
   short : length (runOf (t .effect .store)) ≤ 9
 
-turn-choice : (b : Bool) (x y : Turn) → Fine x → Fine y → Fine (pick b x y)
-turn-choice true x y p q = p
-turn-choice false x y p q = q
-
 fine : (e : Effect) → Good e → Fine (turnIs Done e)
 fine e g = record { low = λ r. g .low; high = λ r. g .high; short = g .short }
 
@@ -408,17 +394,12 @@ turn-fine : (s : State) (m : List ℕ) (line : ℕ) → AreBytes m → Fine (tur
 unfolding turnOf
 turn-fine s m line bytes =
     let k = allowedLine (s .flags) line in
-    turn-choice (ltb k 8) _ _
-    (turn-choice (s .waiting) _ _ (fine _ (wake-good s m k)) (fine _ (entry-good s m k)))
-    (turn-choice (s .waiting) _ _ (fine _ (idle-good s)) (instructed-fine s m bytes))
+    both Fine (ltb k 8) _ _
+    (both Fine (s .waiting) _ _ (fine _ (wake-good s m k)) (fine _ (entry-good s m k)))
+    (both Fine (s .waiting) _ _ (fine _ (idle-good s)) (instructed-fine s m bytes))
 
 pub every-step-costs : EveryStepCosts
 every-step-costs s m line bytes done = (turn-fine s m line bytes .low done, turn-fine s m line bytes .high done)
 
 pub every-store-is-short : EveryStoreIsShort
 every-store-is-short s m line bytes = turn-fine s m line bytes .short
-
-pub only-the-store : OnlyTheStore
-unfolding stepOf
-only-the-store s m line a bytes whole free in-at in-a =
-    rw free (stores-exactly m _ (runOf (turnOf s m line .effect .store)) a whole in-at (every-store-is-short s m line bytes) in-a)

@@ -1,4 +1,2 @@
-pub mod Outcome
 pub mod Bounds
-pub mod Bench
 pub mod Run

@@ -31,14 +31,14 @@ abbrev pub turnHere : List ℕ → List ℕ → State → List ℕ → Turn
 turnHere cycles lines s m = turnOf s m (lineAt cycles lines (s .clock))
 
 -- the three ways on from a boundary
-run-stops :
+pub run-stops :
     (k : ℕ) (cycles lines : List ℕ) (s : State) (m : List ℕ) (left : ℕ) →
     (numberOf (turnHere cycles lines s m .reply) ≡ 0 → ⊥) →
     goesOn (suc k) cycles lines s m left ≡ endsHere (numberOf (turnHere cycles lines s m .reply)) s m
 unfolding goesOn
 run-stops k cycles lines s m left other = rw (ne-eqb _ _ other)
 
-run-spends :
+pub run-spends :
     (k : ℕ) (cycles lines : List ℕ) (s : State) (m : List ℕ) (left : ℕ) →
     numberOf (turnHere cycles lines s m .reply) ≡ 0 →
     left < turnHere cycles lines s m .effect .cost →
@@ -46,7 +46,7 @@ run-spends :
 unfolding goesOn
 run-spends k cycles lines s m left done short = rw (eq-eqb _ _ done, lt-ltb _ _ short)
 
-run-steps :
+pub run-steps :
     (k : ℕ) (cycles lines : List ℕ) (s : State) (m : List ℕ) (left : ℕ) →
     numberOf (turnHere cycles lines s m .reply) ≡ 0 →
     turnHere cycles lines s m .effect .cost ≤ left →
@@ -67,10 +67,10 @@ number-zero Stopped e = absurd (omega (arith, e))
 number-zero ReservedPostbyte e = absurd (omega (arith, e))
 
 -- cycles before cycles are their sum
-after-twice : (a b : ℕ) (e : End) → after a (after b e) ≡ after (a + b) e
+pub after-twice : (a b : ℕ) (e : End) → after a (after b e) ≡ after (a + b) e
 after-twice a b e = ap (λ n. record { reply = e .reply; state = e .state; memory = e .memory; cycles = n }) (omega arith)
 
-after-none : (e : End) → after 0 e ≡ e
+pub after-none : (e : End) → after 0 e ≡ e
 after-none e = ap (λ n. record { reply = e .reply; state = e .state; memory = e .memory; cycles = n }) (omega arith)
 
 -- what is left of the run, from here and after the cycles used, is the whole run
@@ -111,7 +111,7 @@ pub in-force-here :
 in-force-here cycles lines clock place line up same at is = is ∙ ap (lineBefore lines) at ∙ sym (line-of-place cycles lines clock up same)
 
 -- a step that fits costs at least one cycle
-costs-one : (s : State) (m : List ℕ) (line : ℕ) → AreBytes m → numberOf (turnOf s m line .reply) ≡ 0 → 1 ≤ turnOf s m line .effect .cost
+pub costs-one : (s : State) (m : List ℕ) (line : ℕ) → AreBytes m → numberOf (turnOf s m line .reply) ≡ 0 → 1 ≤ turnOf s m line .effect .cost
 costs-one s m line bytes done = every-step-costs s m line bytes (number-zero _ done) .0
 
 pub costs-some : (s : State) (m : List ℕ) (line : ℕ) (t : Turn) → AreBytes m → t ≡ turnOf s m line → numberOf (t .reply) ≡ 0 → 1 ≤ t .effect .cost

@@ -3,6 +3,4 @@ pub mod Turn
 pub mod End
 pub mod Step
 pub mod Run
-pub mod Outcome
 pub mod Bounds
-pub mod Bench

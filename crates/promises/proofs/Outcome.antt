@@ -3,11 +3,11 @@ use Prim.Native.Nat.{ℕ}
 use mathlib.Core.Path.{_≡_, refl, sym, _∙_, ap}
 use lib.Dec.{eqb}
 use Rattle.word.specs.Word.{pick}
 use Rattle.machine.specs.declared.Reply.{Reply}
 use Rattle.machine.specs.declared.Reply.the-variants.{Done, WrongMemory, WrongSchedule, PastLimit, Stopped, ReservedPostbyte}
 use Rattle.machine.specs.Names.{numberOf}
 use Rattle.machine.specs.End.{End}
-use Rattle.machine.specs.Outcome.{OneAnswer, OneStep, OneRun, OneReset}
+use Rattle.promises.specs.Outcome.{OneAnswer, OneStep, OneRun, OneReset}
 
 -- the reply of a number
 replyOf : ℕ → Reply

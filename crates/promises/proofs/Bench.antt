@@ -11,8 +11,8 @@ use Rattle.execute16.specs.Inherent.{firstInherent, secondInherent, inherentEff
 use Rattle.execute16.specs.Products.{multiplied, productEffect}
 use Rattle.flow.specs.Branches.{shortEffect}
 use Rattle.flow.specs.Stack.{interruptEffect}
 use Rattle.machine.specs.Turn.{allowedLine, controlled, executed, instructed, turnOf}
-use Rattle.machine.specs.Bench.{given, BenchRows}
+use Rattle.promises.specs.Bench.{given, BenchRows}
 
 pub bench-rows : BenchRows
 unfolding given turnOf allowedLine instructed fetchedOf cellOf pageOne pageTwo families familyOf grid gridAt formOf extensionOf reservedOf lengthOf costOf untakenOf steppedPlace constantPlace accumulatorPlace indexedPlace operandPlace executed controlled accumulated changed withAEffect inAEffect firstInherent secondInherent inherentEffect multiplied productEffect shortEffect interruptEffect

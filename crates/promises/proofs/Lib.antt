@@ -1,0 +1,7 @@
+pub mod Results
+pub mod Registers
+pub mod Words
+pub mod Store
+pub mod Outcome
+pub mod Steps
+pub mod Bench

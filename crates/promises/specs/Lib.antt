@@ -1,0 +1,5 @@
+pub mod Words
+pub mod Store
+pub mod Outcome
+pub mod Steps
+pub mod Bench
