@@ -6,3 +6,5 @@ pub mod Outcome
 pub mod Steps
 pub mod Bench
 pub mod Masks
+pub mod Boundaries
+pub mod Warning

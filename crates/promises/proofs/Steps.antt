@@ -283,13 +283,13 @@ splits (suc k) (suc k₁) k₂ s m cycles lines first left f l₁ l l₂ w bytes
         (rest (omega (arith, one, l₁, there)) (omega (arith, one, l, there, f)) (omega (arith, l₃))))
 
 -- what it takes not to be refused
-record Free (s : State) (m cycles lines : List ℕ) (budget : ℕ) : Type 0 where
-  whole : length m ≡ memorySize
-  good : accepted recordLimit cycles lines ≡ true
-  small : budget ≤ budgetLimit
-  near : s .clock + budget ≤ clockLimit
+pub record Free (s : State) (m cycles lines : List ℕ) (budget : ℕ) : Type 0 where
+  pub whole : length m ≡ memorySize
+  pub good : accepted recordLimit cycles lines ≡ true
+  pub small : budget ≤ budgetLimit
+  pub near : s .clock + budget ≤ clockLimit
 
-is-free : (s : State) (m cycles lines : List ℕ) (budget : ℕ) → runRefusal s m cycles lines budget ≡ 0 → Free s m cycles lines budget
+pub is-free : (s : State) (m cycles lines : List ℕ) (budget : ℕ) → runRefusal s m cycles lines budget ≡ 0 → Free s m cycles lines budget
 is-free s m cycles lines budget =
     go (eqb (length m) memorySize) (accepted recordLimit cycles lines) (ltb budgetLimit budget) (ltb clockLimit (s .clock + budget)) refl refl refl refl
   where

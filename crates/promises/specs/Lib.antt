@@ -4,3 +4,4 @@ pub mod Outcome
 pub mod Steps
 pub mod Bench
 pub mod Masks
+pub mod Warning

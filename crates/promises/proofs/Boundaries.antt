@@ -1,0 +1,106 @@
+-- The boundaries of a run, one after another, and what each of them has. On the definitions alone. Assumes nothing.
+use Prim.Native.Nat.{ℕ, zero, suc, _+_, _<_, _≤_}
+use native.Mathlib.Omega.{arith}
+use mathlib.Core.Path.{_≡_, refl, sym, _∙_, ap}
+use mathlib.Core.Bool.{Bool, true, false}
+use mathlib.Core.List.{List, []}
+use lib.Dec.{ltb}
+use lib.ListN.{length, getD, take}
+use lib.Seq.{take-all, getD-take}
+use borrow.Author.Tests.{lt-ltb}
+use Rattle.word.specs.Word.{pick, plusW, minusW}
+use Rattle.memory.specs.declared.Store.{Store}
+use Rattle.memory.specs.Memory.{byteAt, committed, storeNine, noStore, runOf as bytesOf}
+use Rattle.memory.proofs.Laws.{store-keeps, store-none, stores-exactly}
+use Rattle.state.specs.declared.State.{State}
+use Rattle.state.specs.State.{withClock}
+use Rattle.schedule.specs.Schedule.{lineAt}
+use Rattle.flow.specs.Stack.{frameOf}
+use Rattle.machine.specs.Turn.{turnOf}
+use Rattle.machine.specs.Bounds.{AreBytes}
+use Rattle.machine.specs.Step.{turnState, turnMemory}
+use Rattle.promises.specs.Words.{Words}
+use Rattle.promises.specs.Steps.{turnAt, nextState, nextMemory, afterSteps}
+use Rattle.promises.proofs.Words.{every-step-keeps-words, every-boundary-has-words}
+use Rattle.promises.proofs.Masks.{only-wai-waits, a-wait-keeps}
+
+-- the boundary after n + 1 steps is one step on from that after n
+pub record OneOn (n : ℕ) (s : State) (m cycles lines : List ℕ) : Type 0 where
+  pub state : afterSteps (suc n) cycles lines s m .state ≡ nextState cycles lines (afterSteps n cycles lines s m .state) (afterSteps n cycles lines s m .memory)
+  pub memory : afterSteps (suc n) cycles lines s m .memory ≡ nextMemory cycles lines (afterSteps n cycles lines s m .state) (afterSteps n cycles lines s m .memory)
+  pub cycles-are :
+      afterSteps (suc n) cycles lines s m .cycles
+      ≡ afterSteps n cycles lines s m .cycles
+      + turnAt cycles lines (afterSteps n cycles lines s m .state) (afterSteps n cycles lines s m .memory) .effect .cost
+
+pub one-on : (n : ℕ) (s : State) (m cycles lines : List ℕ) → OneOn n s m cycles lines
+unfolding afterSteps
+one-on zero s m cycles lines = record { state = refl; memory = refl; cycles-are = omega arith }
+one-on (suc n) s m cycles lines =
+    let rest = one-on n (nextState cycles lines s m) (nextMemory cycles lines s m) cycles lines in
+    record { state = rest .state; memory = rest .memory; cycles-are = omega (arith, rest .cycles-are) }
+
+-- the clock at a boundary is that at the start and the cycles used since
+pub clock-at : (n : ℕ) (s : State) (m cycles lines : List ℕ) → afterSteps n cycles lines s m .state .clock ≡ s .clock + afterSteps n cycles lines s m .cycles
+unfolding afterSteps
+clock-at zero s m cycles lines = omega arith
+clock-at (suc n) s m cycles lines =
+    let rest = clock-at n (nextState cycles lines s m) (nextMemory cycles lines s m) cycles lines in
+    omega (arith, rest)
+
+-- the nine bytes at SP are the registers
+abbrev pub Framed : State → List ℕ → Type 0
+Framed s m = (j : ℕ) → j < 9 → byteAt m (plusW (s .sp) j) ≡ getD (frameOf s) j 0
+
+-- nine bytes that were stored are there
+pub nine-stored : (m : List ℕ) (a : ℕ) (bs : List ℕ) → length m ≡ 65536 → a < 65536 → length bs ≡ 9 → (j : ℕ) → j < 9 → byteAt (committed m (storeNine a bs)) (plusW a j) ≡ getD bs j 0
+nine-stored m a bs whole inside nine j h =
+    let back : minusW (plusW a j) a ≡ j = omega (arith, inside, h) in
+    let all : length (take 9 bs) ≡ 9 = ap length (take-all 9 bs (omega (arith, nine))) ∙ nine in
+    stores-exactly m a (take 9 bs) (plusW a j) whole inside (omega (arith, all)) (omega arith)
+    ∙ ap (λ i. pick (ltb i (length (take 9 bs))) (getD (take 9 bs) i 0) (byteAt m (plusW a j))) back
+    ∙ ap (λ b. pick b (getD (take 9 bs) j 0) (byteAt m (plusW a j))) (lt-ltb j (length (take 9 bs)) (omega (arith, all, h)))
+    ∙ getD-take 9 bs j 0 h
+
+-- What every boundary has, from one that has it: registers of bytes and words, a memory of 65,536 bytes, and where the machine waits
+-- its frame.
+pub record Sound (s : State) (m : List ℕ) : Type 0 where
+  pub words : Words s
+  pub bytes : AreBytes m
+  pub whole : length m ≡ 65536
+  pub framed : s .waiting ≡ true → Framed s m
+
+-- a state and a memory that are the same, but for the clock
+framed-kept : (s t : State) (m m′ : List ℕ) (clock : ℕ) → t ≡ s → m′ ≡ m → Framed s m → Framed (withClock t clock) m′
+framed-kept s t m m′ clock es em framed j h =
+    ap (λ (n : List ℕ). byteAt n (plusW (t .sp) j)) em
+    ∙ ap (λ (u : State). byteAt m (plusW (u .sp) j)) es
+    ∙ framed j h
+    ∙ sym (ap (λ (u : State). getD (frameOf u) j 0) es)
+
+-- one step on
+pub sound-next : (s : State) (m : List ℕ) (line : ℕ) → Sound s m → Sound (turnState s m line) (turnMemory s m line)
+sound-next s m line here =
+    let next = every-boundary-has-words s m line (here .words) (here .bytes) in
+    record {
+      words = next .0;
+      bytes = next .1;
+      whole = store-keeps m (turnOf s m line .effect .store .at) (bytesOf (turnOf s m line .effect .store)) ∙ here .whole;
+      framed = λ waits. framed (s .waiting) refl waits;
+    }
+  where
+    framed : (b : Bool) → s .waiting ≡ b → turnOf s m line .effect .state .waiting ≡ true → Framed (turnState s m line) (turnMemory s m line)
+    framed false was waits j h =
+        let left = every-step-keeps-words s m line (here .words) (here .bytes) in
+        rw (only-wai-waits s m line was waits)
+        (nine-stored m (turnOf s m line .effect .state .sp) (frameOf (turnOf s m line .effect .state)) (here .whole) (left .registers .sp) refl j h)
+    framed true was waits j h =
+        let kept = a-wait-keeps s m line was waits in
+        framed-kept s (turnOf s m line .effect .state) m (turnMemory s m line) (turnState s m line .clock) (kept .0)
+        (ap (committed m) (kept .1) ∙ store-none m 0) (here .framed was) j h
+
+pub sound-at : (n : ℕ) (s : State) (m cycles lines : List ℕ) → Sound s m → Sound (afterSteps n cycles lines s m .state) (afterSteps n cycles lines s m .memory)
+unfolding afterSteps
+sound-at zero s m cycles lines here = here
+sound-at (suc n) s m cycles lines here =
+    sound-at n (nextState cycles lines s m) (nextMemory cycles lines s m) cycles lines (sound-next s m (lineAt cycles lines (s .clock)) here)
