@@ -8,8 +8,6 @@ use state::State;
 ghost use mathlib.Core.Path.{_≡_};
 ghost use mathlib.Core.Bool.{true};
 ghost use Prim.Native.Nat.{_<_, _≤_, _+_, suc};
-ghost use lib.Dec.{eqb, ltb};
-ghost use mathlib.Core.Bool.{_||_};
 ghost use lib.ListN.{length};
 ghost use Rattle.schedule.specs.Schedule.{rising};
 ghost use Rattle.opcodes.specs.Map.{opcodeMap};
@@ -27,6 +25,21 @@ pub enum Reply {
     PastLimit,
     Stopped,
     ReservedPostbyte,
+}
+
+impl Reply {
+    pub fn number(self) -> u8
+        ensures { λ r. ⌜ r ≡ numberOf self ⌝ }
+    {
+        match self {
+            Reply::Done => 0,
+            Reply::WrongMemory => 1,
+            Reply::WrongSchedule => 2,
+            Reply::PastLimit => 3,
+            Reply::Stopped => 4,
+            Reply::ReservedPostbyte => 5,
+        }
+    }
 }
 
 pub struct Machine {
@@ -219,19 +232,6 @@ pub fn turn_at(map: &[u32; 512], s: State, m: &[u8], line: u8) -> Turn
     instructed(s, m, decode::fetch(map, m, s.pc))
 }
 
-fn is_done(r: Reply) -> bool
-    ensures { λ b. ⌜ b ≡ eqb (numberOf r) 0 ⌝ }
-{
-    match r {
-        Reply::Done => true,
-        Reply::WrongMemory => false,
-        Reply::WrongSchedule => false,
-        Reply::PastLimit => false,
-        Reply::Stopped => false,
-        Reply::ReservedPostbyte => false,
-    }
-}
-
 // The clock and the budget may each be any number of 32 bits: their sum is taken in 64.
 fn past_limit(clock: u32, budget: u32) -> bool
     ensures { λ r. ⌜ r ≡ pastLimit clock budget ⌝ }
@@ -264,7 +264,7 @@ fn go(
         let line = schedule::line_before(lines, place);
         let next = turn_at(map, s, &m[..], line);
         let reply = next.reply;
-        if !is_done(reply) {
+        if reply.number() != 0 {
             break Machine::answered(reply, s, used);
         }
         let done = next.effect;

@@ -8,3 +8,4 @@ pub mod Bench
 pub mod Masks
 pub mod Boundaries
 pub mod Warning
+pub mod Always

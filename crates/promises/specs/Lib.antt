@@ -5,3 +5,4 @@ pub mod Steps
 pub mod Bench
 pub mod Masks
 pub mod Warning
+pub mod Always

@@ -2,7 +2,6 @@ use Prim.Native.Nat.{_≤_, _+_}
 use native.Mathlib.Omega.{arith}
 use mathlib.Core.Path.{_≡_, refl, sym, _∙_, ap}
 use borrow.Author.Needs.{needs}
-use borrow.Author.Tests.{eqb-true, eqb-false, not-true, not-false}
 use Rattle.machine.specs.Turn.{turnOf}
 use Rattle.machine.specs.Run.{goesOn}
 use Rattle.machine.proofs.Run.{Going, begun, in-force-here, costs-some, turned, ends-stopped, ends-spent, turnHere}
@@ -48,7 +47,7 @@ loop-less c =
     let asked = fits .before .before .before .before in
     let found = asked .before in
     let now = found .before .before .before .before in
-    let done = eqb-true _ _ (sym (asked .is-done .ensures) ∙ not-false _ (fits .before .before .before .if1 .left)) in
+    let done = sym (asked .number .ensures) ∙ fits .before .before .before .if1 .left in
     let one = costs-some _ _ _ _ (now .loop .inv .bytes) (found .turn-at .ensures) done in
     omega (arith, fits .if2 .left, one)
 
@@ -60,7 +59,7 @@ loop-again c =
     let placed = found .before .before .before in
     let now = placed .before in
     let start = now .before .before .before .before in
-    let done = eqb-true _ _ (sym (asked .is-done .ensures) ∙ not-false _ (fits .before .before .before .if1 .left)) in
+    let done = sym (asked .number .ensures) ∙ fits .before .before .before .if1 .left in
     let line = in-force-here _ _ _ _ _ (start .pre .1 .1 .1 .0) (start .pre .1 .1 .0) (placed .passed .ensures) (found .before .before .line-before .ensures) in
     turned (now .loop .inv) (found .turn-at .result) _ _ _ (found .turn-at .ensures ∙ ap (turnOf (now .loop .s) (now .loop .m)) line) done
     (fits .if2 .left) (c .before .before .before .before .commit .ensures) (c .with-clock .ensures) (placed .passed .ensures)
@@ -78,7 +77,7 @@ stopped c =
     let start = now .before .before .before .before in
     let line = in-force-here _ _ _ _ _ (start .pre .1 .1 .1 .0) (start .pre .1 .1 .0) (placed .passed .ensures) (found .before .before .line-before .ensures) in
     ends-stopped (now .loop .inv) (found .turn-at .result) (found .turn-at .ensures ∙ ap (turnOf (now .loop .s) (now .loop .m)) line)
-    (eqb-false _ _ (sym (asked .is-done .ensures) ∙ not-true _ (c .before .if1 .taken)))
+    (λ e. c .before .if1 .taken (asked .number .ensures ∙ e))
     _ (c .answered .ensures .0) (c .answered .ensures .1 .0) (c .answered .ensures .1 .1)
 
 same-length-2 : tie.Need-same-length-2 Inv-loop μ-loop
@@ -92,7 +91,7 @@ spent c =
     let placed = found .before .before .before in
     let now = placed .before in
     let start = now .before .before .before .before in
-    let done = eqb-true _ _ (sym (asked .is-done .ensures) ∙ not-false _ (short .before .before .before .if1 .left)) in
+    let done = sym (asked .number .ensures) ∙ short .before .before .before .if1 .left in
     let line = in-force-here _ _ _ _ _ (start .pre .1 .1 .1 .0) (start .pre .1 .1 .0) (placed .passed .ensures) (found .before .before .line-before .ensures) in
     ends-spent (now .loop .inv) (found .turn-at .result) (found .turn-at .ensures ∙ ap (turnOf (now .loop .s) (now .loop .m)) line) done
     (short .if2 .taken) _ (c .answered2 .ensures .0) (c .answered2 .ensures .1 .0) (c .answered2 .ensures .1 .1)
