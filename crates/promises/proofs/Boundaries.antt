@@ -1,5 +1,5 @@
 -- The boundaries of a run, one after another, and what each of them has. On the definitions alone. Assumes nothing.
-use Prim.Native.Nat.{ℕ, zero, suc, _+_, _<_, _≤_}
+use Prim.Native.Nat.{ℕ, zero, suc, _+_, _-_, _<_, _≤_}
 use native.Mathlib.Omega.{arith}
 use mathlib.Core.Path.{_≡_, refl, sym, _∙_, ap}
 use mathlib.Core.Bool.{Bool, true, false}
@@ -21,8 +21,9 @@ use Rattle.machine.specs.Bounds.{AreBytes}
 use Rattle.machine.specs.Step.{turnState, turnMemory}
 use Rattle.promises.specs.Words.{Words}
 use Rattle.promises.specs.Steps.{turnAt, nextState, nextMemory, afterSteps}
+use Rattle.promises.specs.Masks.{XirqEnteredAt, XStaysClearAlongEveryRun}
 use Rattle.promises.proofs.Words.{every-step-keeps-words, every-boundary-has-words}
-use Rattle.promises.proofs.Masks.{only-wai-waits, a-wait-keeps}
+use Rattle.promises.proofs.Masks.{x-stays-clear, only-wai-waits, a-wait-keeps}
 
 -- the boundary after n + 1 steps is one step on from that after n
 pub record OneOn (n : ℕ) (s : State) (m cycles lines : List ℕ) : Type 0 where
@@ -104,3 +105,23 @@ unfolding afterSteps
 sound-at zero s m cycles lines here = here
 sound-at (suc n) s m cycles lines here =
     sound-at n (nextState cycles lines s m) (nextMemory cycles lines s m) cycles lines (sound-next s m (lineAt cycles lines (s .clock)) here)
+
+-- X, from a boundary where it is clear on
+x-clear-at :
+    (s : State) (m cycles lines : List ℕ) (k d : ℕ) →
+    afterSteps k cycles lines s m .state .flags .x ≡ false →
+    ((j : ℕ) → k ≤ j → j < k + d → XirqEnteredAt j s m cycles lines → ⊥) →
+    afterSteps (k + d) cycles lines s m .state .flags .x ≡ false
+x-clear-at s m cycles lines k zero clear none = ap (λ (j : ℕ). afterSteps j cycles lines s m .state .flags .x) (omega arith) ∙ clear
+x-clear-at s m cycles lines k (suc d) clear none =
+    let before = x-clear-at s m cycles lines k d clear (λ j low high. none j low (omega (arith, high))) in
+    let other = none (k + d) (omega arith) (omega arith) in
+    ap (λ (j : ℕ). afterSteps j cycles lines s m .state .flags .x) (omega arith)
+    ∙ ap (λ (u : State). u .flags .x) (one-on (k + d) s m cycles lines .state)
+    ∙ x-stays-clear (afterSteps (k + d) cycles lines s m .state) (afterSteps (k + d) cycles lines s m .memory) _ other before
+
+pub x-stays-clear-along-every-run : XStaysClearAlongEveryRun
+x-stays-clear-along-every-run s m cycles lines k n h clear none =
+    let is : k + (n - k) ≡ n = omega (arith, h) in
+    ap (λ (j : ℕ). afterSteps j cycles lines s m .state .flags .x) (sym is)
+    ∙ x-clear-at s m cycles lines k (n - k) clear (λ j low high. none j low (omega (arith, high, h)))

@@ -9,3 +9,4 @@ pub mod Masks
 pub mod Boundaries
 pub mod Warning
 pub mod Always
+pub mod Bound

@@ -1,12 +1,15 @@
--- What every step keeps of the mask X and of the waiting flag. Each law is proved under the same name in proofs/Masks.antt.
-use Prim.Native.Nat.{ℕ}
+-- What every step keeps of the mask X and of the waiting flag. Each law is proved under the same name in proofs/Masks.antt, and
+-- `XStaysClearAlongEveryRun` in proofs/Boundaries.antt.
+use Prim.Native.Nat.{ℕ, _<_, _≤_}
 use mathlib.Core.Path.{_≡_}
 use mathlib.Core.Bool.{true, false}
 use mathlib.Core.List.{List}
 use Rattle.memory.specs.Memory.{noStore, storeNine}
 use Rattle.state.specs.declared.State.{State}
+use Rattle.schedule.specs.Schedule.{lineAt}
 use Rattle.flow.specs.Stack.{frameOf}
 use Rattle.machine.specs.Turn.{allowedLine, turnOf}
+use Rattle.promises.specs.Steps.{afterSteps}
 
 -- X, once it is clear, stays clear, unless the step is an entry or the end of a wait by line 0, XIRQ
 abbrev pub XStaysClear : Type 0
@@ -15,6 +18,20 @@ XStaysClear =
     (allowedLine (s .flags) line ≡ 0 → ⊥) →
     s .flags .x ≡ false →
     turnOf s m line .effect .state .flags .x ≡ false
+
+-- XIRQ is entered, or ends a wait, at boundary k of a run
+abbrev pub XirqEnteredAt : ℕ → State → List ℕ → List ℕ → List ℕ → Type 0
+XirqEnteredAt k s m cycles lines =
+    allowedLine (afterSteps k cycles lines s m .state .flags) (lineAt cycles lines (afterSteps k cycles lines s m .state .clock)) ≡ 0
+
+-- and so along every run: from boundary k, where X is clear, to boundary n, if XIRQ is entered at none between them
+abbrev pub XStaysClearAlongEveryRun : Type 0
+XStaysClearAlongEveryRun =
+    (s : State) (m cycles lines : List ℕ) (k n : ℕ) →
+    k ≤ n →
+    afterSteps k cycles lines s m .state .flags .x ≡ false →
+    ((j : ℕ) → k ≤ j → j < n → XirqEnteredAt j s m cycles lines → ⊥) →
+    afterSteps n cycles lines s m .state .flags .x ≡ false
 
 -- where a step makes the machine wait, it has stored the frame of the waiting machine's registers at its SP, as WAI does
 abbrev pub OnlyWaiWaits : Type 0
