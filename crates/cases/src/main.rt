@@ -3,6 +3,7 @@ use machine::Machine;
 use machine::Reply;
 use state::Flags;
 use state::State;
+use text::Text;
 ghost use Prim.Native.Nat.{_≤_};
 ghost use lib.ListN.{length};
 
@@ -26,61 +27,12 @@ struct Turned {
     held: usize,
 }
 
-// An answer being written. The longest has 68 bytes.
-struct Text {
-    bytes: [u8; 80],
-    len: usize,
-}
-
-fn put(t: Text, b: u8) -> Text {
-    let at = t.len;
-    if at >= 80 {
-        return t;
-    }
-    let mut next = t;
-    next.bytes[at] = b;
-    next.len = at + 1;
-    next
-}
-
-fn empty() -> Text {
-    Text {
-        bytes: [0; 80],
-        len: 0,
-    }
-}
-
 fn bad() -> Text {
-    put(put(put(put(empty(), b'b'), b'a'), b'd'), b'\n')
-}
-
-fn hex_digit(n: u8) -> u8 {
-    let digit = n % 16;
-    if digit < 10 {
-        b'0' + digit
-    } else {
-        b'A' + (digit - 10)
-    }
-}
-
-// The digits of n, the highest first: each turn takes the highest off and moves the rest up.
-fn put_hex(t: Text, n: u64) -> Text {
-    let mut text = t;
-    let mut rest = n;
-    let mut begun = false;
-    for i in 0u8..16 {
-        let digit = (rest / 0x1000000000000000 % 16) as u8;
-        rest = rest % 0x1000000000000000 * 16;
-        begun = begun | (digit > 0) | (i == 15);
-        if begun {
-            text = put(text, hex_digit(digit));
-        }
-    }
-    text
+    Text::empty().put_all(b"bad\n")
 }
 
 fn put_next(t: Text, n: u64) -> Text {
-    put_hex(put(t, b' '), n)
+    t.put(b' ').put_hex(n)
 }
 
 fn put_state(t: Text, s: State) -> Text {
@@ -94,21 +46,11 @@ fn put_state(t: Text, s: State) -> Text {
     put_next(waits, clock)
 }
 
-// Document 01's number of a reply.
-fn reply_number(r: Reply) -> u64 {
-    match r {
-        Reply::Done => 0,
-        Reply::WrongMemory => 1,
-        Reply::WrongSchedule => 2,
-        Reply::PastLimit => 3,
-        Reply::Stopped => 4,
-        Reply::ReservedPostbyte => 5,
-    }
-}
-
+// The longest answer has 68 bytes.
 fn answer(r: Reply, cycles: u32, s: State, sum: u64) -> Text {
-    let start = put_next(put_hex(empty(), reply_number(r)), cycles as u64);
-    put(put_next(put_state(start, s), sum), b'\n')
+    let reply = Text::empty().put_hex(r.number() as u64);
+    let start = put_next(reply, cycles as u64);
+    put_next(put_state(start, s), sum).put(b'\n')
 }
 
 fn none() -> Parsed {
@@ -324,6 +266,77 @@ fn step(line: &[u8], at: usize, memory: &mut [u8]) -> Text
     answer(reply, stepped.cycles, left, weighted(memory))
 }
 
+// Takes `count` records of a schedule. Not ok where one is missing, or there is no place for it.
+fn records(line: &[u8], from: usize, count: usize, cycles: &mut [u32], lines: &mut [u8]) -> Parsed {
+    let mut at = from;
+    let mut i = 0;
+    while i < count {
+        let cycle = number(line, at, 0xFFFFFFFF);
+        let byte = number(line, cycle.next, 0xFF);
+        if !(cycle.ok & byte.ok) {
+            return none();
+        }
+        if i >= cycles.len() {
+            return none();
+        }
+        if i >= lines.len() {
+            return none();
+        }
+        cycles[i] = cycle.value;
+        lines[i] = low_byte(byte);
+        at = byte.next;
+        i += 1;
+    }
+    Parsed {
+        ok: true,
+        value: 0,
+        next: at,
+    }
+}
+
+// A run with the first n records.
+fn run_first(
+    state: State,
+    memory: &mut [u8],
+    cycles: &[u32],
+    lines: &[u8],
+    n: usize,
+    budget: u32,
+) -> Text
+    requires { ⌜ length (now memory) ≤ 65537 ⌝ }
+{
+    if n > cycles.len() {
+        return bad();
+    }
+    if n > lines.len() {
+        return bad();
+    }
+    let machine = Machine { state: state };
+    let ran = machine.run(memory, &cycles[..n], &lines[..n], budget);
+    let after = ran.machine;
+    let left = after.state;
+    let reply = ran.reply;
+    answer(reply, ran.cycles, left, weighted(memory))
+}
+
+// One record more than the machine accepts can be given, so that it can be seen to refuse them.
+fn run(line: &[u8], at: usize, memory: &mut [u8]) -> Text
+    requires { ⌜ length (now memory) ≤ 65537 ⌝ }
+{
+    let given = registers(line, at);
+    let budget = number(line, given.next, 0xFFFFFFFF);
+    let count = number(line, budget.next, 65);
+    let n = count.value as usize;
+    let mut cycles = [0u32; 65];
+    let mut lines = [0u8; 65];
+    let listed = records(line, count.next, n, &mut cycles, &mut lines);
+    if !(given.ok & budget.ok & count.ok & listed.ok & (listed.next == line.len())) {
+        return bad();
+    }
+    let state = given.state;
+    run_first(state, memory, &cycles, &lines, n, budget.value)
+}
+
 fn operate(line: &[u8], at: usize, count: u32, seed: u32, memory: &mut [u8]) -> Text
     requires { ⌜ length (now memory) ≤ 65537 ⌝ }
 {
@@ -337,6 +350,9 @@ fn operate(line: &[u8], at: usize, count: u32, seed: u32, memory: &mut [u8]) -> 
         if line[0] == b's' {
             return step(line, next, memory);
         }
+        if line[0] == b'r' {
+            return run(line, next, memory);
+        }
         if line[0] == b'z' {
             return reset(line, next, memory);
         }
@@ -344,7 +360,7 @@ fn operate(line: &[u8], at: usize, count: u32, seed: u32, memory: &mut [u8]) -> 
     bad()
 }
 
-// The answer to a line. The run, letter `r`, is to come: until then it is answered as another letter is.
+// The answer to a line.
 fn case(line: &[u8], memory: &mut [u8]) -> Text
     requires { ⌜ length (now memory) ≤ 65537 ⌝ }
 {
@@ -367,23 +383,12 @@ fn case(line: &[u8], memory: &mut [u8]) -> Text
     )
 }
 
-fn print_first(bytes: [u8; 80], n: usize) {
-    if n <= 80 {
-        io::write_all(1, &bytes[..n]);
-    }
-}
-
-fn print(t: Text) {
-    let bytes = t.bytes;
-    print_first(bytes, t.len);
-}
-
 // Answers the line that is the first n bytes of `line`.
 fn finish(line: &[u8], n: usize, memory: &mut [u8])
     requires { ⌜ length (now memory) ≤ 65537 ⌝ }
 {
     if n <= line.len() {
-        print(case(&line[..n], memory));
+        case(&line[..n], memory).print();
     }
 }
 
@@ -447,7 +452,7 @@ fn drain(line: &mut [u8], memory: &mut [u8]) -> usize
     held
 }
 
-fn run(line: &mut [u8], memory: &mut [u8])
+fn answer_all(line: &mut [u8], memory: &mut [u8])
     requires { ⌜ length (now memory) ≤ 65537 ⌝ }
 {
     let held = drain(line, memory);
@@ -459,5 +464,5 @@ fn run(line: &mut [u8], memory: &mut [u8])
 fn main() {
     let mut line = io::buffer();
     let mut memory = [0u8; 65537];
-    run(&mut line, &mut memory);
+    answer_all(&mut line, &mut memory);
 }

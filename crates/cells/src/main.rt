@@ -1,5 +1,6 @@
 // Prints the opcode map, one line a cell: page, opcode, mnemonic, length, cost.
 use opcodes::Cell;
+use text::Text;
 ghost use mathlib.Core.Path.{_≡_};
 ghost use Prim.Native.Nat.{_<_};
 ghost use Rattle.opcodes.specs.Map.{opcodeMap};
@@ -55,43 +56,6 @@ const CHOICES: [u8; 112] =
 
 const PAGE2: u8 = 0x09;
 
-// A line being written.
-struct Text {
-    bytes: [u8; 48],
-    len: usize,
-}
-
-fn put(t: Text, b: u8) -> Text {
-    let at = t.len;
-    if at >= 48 {
-        return t;
-    }
-    let mut next = t;
-    next.bytes[at] = b;
-    next.len = at + 1;
-    next
-}
-
-fn put_decimal(t: Text, n: u8) -> Text {
-    if n < 10 {
-        return put(t, b'0' + n);
-    }
-    put(put(t, b'0' + n / 10 % 10), b'0' + n % 10)
-}
-
-fn hex_digit(n: u8) -> u8 {
-    let digit = n % 16;
-    if digit < 10 {
-        b'0' + digit
-    } else {
-        b'A' + (digit - 10)
-    }
-}
-
-fn put_hex(t: Text, n: u8) -> Text {
-    put(put(t, hex_digit(n / 16)), hex_digit(n))
-}
-
 // Letter i of a kind's mnemonic, or a space past its end.
 fn letter(kind: u8, i: u8) -> u8
     requires { ⌜ i < 7 ⌝ }
@@ -125,7 +89,7 @@ fn put_mnemonic(t: Text, kind: u8) -> Text {
         if l == b' ' {
             break;
         }
-        text = put(text, l);
+        text = text.put(l);
     }
     text
 }
@@ -133,9 +97,9 @@ fn put_mnemonic(t: Text, kind: u8) -> Text {
 // A cost of the grid, or a hyphen where the form is reserved.
 fn put_entry(t: Text, cost: u8) -> Text {
     if cost == 0 {
-        put(t, b'-')
+        t.put(b'-')
     } else {
-        put_decimal(t, cost)
+        t.put_decimal(cost as u64)
     }
 }
 
@@ -143,7 +107,7 @@ fn put_entry(t: Text, cost: u8) -> Text {
 fn put_five(t: Text, family: u8) -> Text {
     let mut text = put_entry(t, opcodes::grid_entry(family, 3));
     for column in 4u8..8 {
-        text = put_entry(put(text, b','), opcodes::grid_entry(family, column));
+        text = put_entry(text.put(b','), opcodes::grid_entry(family, column));
     }
     text
 }
@@ -156,14 +120,14 @@ fn conditional(c: Cell) -> bool {
 
 fn put_cost(t: Text, c: Cell) -> Text {
     if opcodes::stops(c) | (c.kind == PAGE2) {
-        return put(t, b'-');
+        return t.put(b'-');
     }
     if opcodes::indexed(c) {
         return put_five(t, c.family);
     }
-    let text = put_decimal(t, c.cost);
+    let text = t.put_decimal(c.cost as u64);
     if conditional(c) {
-        return put_decimal(put(text, b'/'), opcodes::untaken_cost(c));
+        return text.put(b'/').put_decimal(opcodes::untaken_cost(c) as u64);
     }
     text
 }
@@ -175,31 +139,17 @@ fn line(map: &[u32; 512], k: u16) -> Text
     let second = k >= 256;
     let opcode = (k % 256) as u8;
     let c = opcodes::cell_at(map, second, opcode);
-    let start = Text {
-        bytes: [0; 48],
-        len: 0,
-    };
-    let page = put(start, if second { b'2' } else { b'1' });
-    let code = put_hex(put(page, b' '), opcode);
-    let name = put_mnemonic(put(code, b' '), c.kind);
-    let length = put_decimal(put(name, b' '), c.length);
-    put(put_cost(put(length, b' '), c), b'\n')
-}
-
-fn print_first(bytes: [u8; 48], n: usize) {
-    if n <= 48 {
-        io::write_all(1, &bytes[..n]);
-    }
-}
-
-fn print(t: Text) {
-    let bytes = t.bytes;
-    print_first(bytes, t.len);
+    let length = c.length as u64;
+    let page = Text::empty().put(if second { b'2' } else { b'1' });
+    let code = page.put(b' ').put_hex_byte(opcode);
+    let name = put_mnemonic(code.put(b' '), c.kind);
+    let sized = name.put(b' ').put_decimal(length);
+    put_cost(sized.put(b' '), c).put(b'\n')
 }
 
 fn main() {
     let map = opcodes::map();
     for k in 0u16..512 {
-        print(line(&map, k));
+        line(&map, k).print();
     }
 }
