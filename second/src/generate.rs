@@ -167,7 +167,8 @@ impl Generator {
         let schedule = self.schedule(clock);
         let (length, seed) = (self.length(), self.seed());
         let action = Action::Run { cpu: draft.cpu, budget, schedule };
-        self.shorten(finish(length, seed, draft.overlay, action))
+        let case = self.shorten(finish(length, seed, draft.overlay, action));
+        self.at_an_edge(case)
     }
 
     fn reset_case(&mut self) -> Case {
@@ -199,6 +200,20 @@ impl Generator {
                 let budget = self.random.between(1, LONG_BUDGET);
                 set_budget(&mut case, budget);
             }
+        }
+        case
+    }
+
+    /// One run in three that spends its budget gets one that ends just where its last step
+    /// does, a cycle sooner, inside that step, or a cycle later.
+    fn at_an_edge(&mut self, mut case: Case) -> Case {
+        if !self.random.chance(33) || answer_needs_no_run(&case) {
+            return case;
+        }
+        let outcome = answer(&case, &mut self.memories).outcome;
+        if outcome.reply == Reply::Done && outcome.cycles > 0 {
+            let budget = outcome.cycles - 1 + self.random.below(3);
+            set_budget(&mut case, budget);
         }
         case
     }

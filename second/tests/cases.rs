@@ -239,6 +239,27 @@ fn limits_are_generated() {
     }
 }
 
+/// Runs that end at the edge of a step: with this budget and no more the last step is
+/// taken; with one cycle less it is not.
+#[test]
+fn edges_of_steps_are_generated() {
+    let mut memories = Memories::default();
+    let (mut at_the_edge, mut inside, mut after) = (0, 0, 0);
+    for case in generated(Kind::Run, 3_000, 11) {
+        let Action::Run { budget, .. } = &case.action else { continue };
+        let outcome = answer(&case, &mut memories).outcome;
+        if outcome.reply != Reply::Done || *budget == 0 {
+            continue;
+        }
+        match budget - outcome.cycles {
+            0 => at_the_edge += 1,
+            1 => after += 1,
+            _ => inside += 1,
+        }
+    }
+    assert!(at_the_edge > 100 && inside > 100 && after > 100, "{at_the_edge} {inside} {after}");
+}
+
 /// A run taken step by step, as the rules for a run say.
 fn by_steps(cpu: &mut Cpu, memory: &mut [u8], schedule: &[Record], budget: u32) -> Outcome {
     let mut cycles = 0;
