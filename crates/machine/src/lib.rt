@@ -213,7 +213,7 @@ fn instructed(s: State, m: &[u8], fetched: Fetched) -> Turn
 }
 
 // What the machine does next, worked out whole: nothing is changed.
-pub fn turn_at(map: &[u32; 512], s: State, m: &[u8], line: u8) -> Turn
+fn turn_at(map: &[u32; 512], s: State, m: &[u8], line: u8) -> Turn
     requires { ⌜ now map ≡ opcodeMap ⌝ }
     requires { ⌜ length (now m) ≡ 65536 ⌝ }
     ensures { λ r. ⌜ r ≡ turnOf s (now (m .entry)) line ⌝ }

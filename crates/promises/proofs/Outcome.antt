@@ -1,4 +1,4 @@
--- The answers of a step, of a run and of a reset are determined by their promises. Assumes nothing.
+-- The answer of every public operation is determined by its promise. Assumes nothing.
 use Prim.Native.Nat.{ℕ}
 use mathlib.Core.Path.{_≡_, refl, sym, _∙_, ap}
 use lib.Dec.{eqb}
@@ -7,7 +7,7 @@ use Rattle.machine.specs.declared.Reply.{Reply}
 use Rattle.machine.specs.declared.Reply.the-variants.{Done, WrongMemory, WrongSchedule, PastLimit, Stopped, ReservedPostbyte}
 use Rattle.machine.specs.Names.{numberOf}
 use Rattle.machine.specs.End.{End}
-use Rattle.promises.specs.Outcome.{OneAnswer, OneStep, OneRun, OneReset}
+use Rattle.promises.specs.Outcome.{OneNumber, OneNew, OneAnswer, OneStep, OneRun, OneRunOverRecords, OneReset}
 
 -- the reply of a number
 replyOf : ℕ → Reply
@@ -44,6 +44,15 @@ one-step s m line = one-answer _
 
 pub one-run : OneRun
 one-run s m cycles lines budget = one-answer _
+
+pub one-run-over-records : OneRunOverRecords
+one-run-over-records s m rs budget = one-answer _
+
+pub one-number : OneNumber
+one-number reply r r′ a b = a ∙ sym b
+
+pub one-new : OneNew
+one-new pc r r′ a b = λ i. record { state = (a ∙ sym b) i }
 
 pub one-reset : OneReset
 one-reset m r r′ a b = λ i. record {

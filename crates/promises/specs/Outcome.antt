@@ -1,15 +1,38 @@
--- No second outcome satisfies the promise of a step, of a run or of a reset: two answers that both meet it are the same, and so are
--- the memories. Each is proved under the same name in proofs/Outcome.antt.
+-- No second outcome satisfies the promise of a public operation: two answers that both meet it are the same, and so are the memories that
+-- they leave. These are the public operations, and here is one theorem for each, proved under the same name in proofs/Outcome.antt:
+--     Reply::number    OneNumber
+--     Machine::new     OneNew
+--     Machine::reset   OneReset
+--     Machine::step    OneStep
+--     Machine::run     OneRun
+--     records::run     OneRunOverRecords
 use Prim.Native.Nat.{ℕ}
 use mathlib.Core.Path.{_≡_}
 use mathlib.Core.List.{List}
 use Rattle.state.specs.declared.State.{State}
+use Rattle.machine.specs.declared.Reply.{Reply}
+use Rattle.machine.specs.declared.Machine.{Machine}
 use Rattle.machine.specs.declared.Answer.{Answer}
 use Rattle.machine.specs.declared.Started.{Started}
 use Rattle.machine.specs.Names.{numberOf}
 use Rattle.machine.specs.End.{End, Ends}
-use Rattle.machine.specs.Step.{stepOf, resetReply, resetOf}
+use Rattle.machine.specs.Step.{stepOf, resetState, resetReply, resetOf}
 use Rattle.machine.specs.Run.{runOf}
+use Rattle.records.specs.declared.Record.{Record}
+use Rattle.records.specs.Records.{cyclesOf, linesOf}
+
+abbrev pub OneNumber : Type 0
+OneNumber = (reply : Reply) (r r′ : ℕ) → r ≡ numberOf reply → r′ ≡ numberOf reply → r ≡ r′
+
+abbrev pub OneNew : Type 0
+OneNew = (pc : ℕ) (r r′ : Machine) → r .state ≡ resetState pc → r′ .state ≡ resetState pc → r ≡ r′
+
+abbrev pub OneReset : Type 0
+OneReset =
+    (m : List ℕ) (r r′ : Started) →
+    (numberOf (r .reply) ≡ resetReply m) × (r .machine .state ≡ resetOf m) →
+    (numberOf (r′ .reply) ≡ resetReply m) × (r′ .machine .state ≡ resetOf m) →
+    r ≡ r′
 
 -- an end has one answer and one memory
 abbrev pub OneAnswer : End → Type 0
@@ -21,9 +44,5 @@ OneStep = (s : State) (m : List ℕ) (line : ℕ) → OneAnswer (stepOf s m line
 abbrev pub OneRun : Type 0
 OneRun = (s : State) (m cycles lines : List ℕ) (budget : ℕ) → OneAnswer (runOf s m cycles lines budget)
 
-abbrev pub OneReset : Type 0
-OneReset =
-    (m : List ℕ) (r r′ : Started) →
-    (numberOf (r .reply) ≡ resetReply m) × (r .machine .state ≡ resetOf m) →
-    (numberOf (r′ .reply) ≡ resetReply m) × (r′ .machine .state ≡ resetOf m) →
-    r ≡ r′
+abbrev pub OneRunOverRecords : Type 0
+OneRunOverRecords = (s : State) (m : List ℕ) (rs : List Record) (budget : ℕ) → OneAnswer (runOf s m (cyclesOf rs) (linesOf rs) budget)
