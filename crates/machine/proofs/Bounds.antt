@@ -40,7 +40,7 @@ use Rattle.machine.specs.declared.Reply.{Reply}
 use Rattle.machine.specs.declared.Reply.the-variants.{Done, Stopped, ReservedPostbyte}
 use Rattle.machine.specs.declared.Turn.{Turn}
 use Rattle.machine.specs.Names.{numberOf, idleCost}
-use Rattle.machine.specs.Turn.{allowedLine, entryEffect, wakeEffect, controlled, executed, turnIs, instructed, turnOf}
+use Rattle.machine.specs.Turn.{allowedLine, entryEffect, wakeEffect, controlled, unbranched, executed, turnIs, instructed, turnOf}
 use Rattle.machine.specs.Bounds.{AreBytes, EveryStepCosts, EveryStoreIsShort}
 use Rattle.codes.proofs.Laws.{both}
 
@@ -263,19 +263,8 @@ unfolding longEffect
 long-branch s m d l h l′ h′ =
     both Good (conditionOf (s .flags) (d .kind % 16)) _ _ (good l h (quiet-kept _ _)) (good l′ h′ (quiet-kept _ _))
 
--- every group but those of the branches, one after the other
-other-groups : (group : ℕ) (s : State) (m : List ℕ) (d : Decoded) → Kept (d .cost)
-    (pick (eqb group 0x3) (withAEffect s m d)
-    (pick (eqb group 0x4) (withBEffect s m d)
-    (pick (eqb group 0x5) (withWordEffect s m d)
-    (pick (eqb group 0x6) (storeEffect s m d)
-    (pick (eqb group 0x7) (inMemoryEffect s m d)
-    (pick (eqb group 0x8) (inAEffect s d)
-    (pick (eqb group 0x9) (inBEffect s d)
-    (pick (eqb group 0xA) (inherentEffect s m d)
-    (pick (eqb group 0xB) (productEffect s m d)
-    (pick (eqb group 0xC) (stackEffect s m d)
-    (pick (eqb group 0xD) (controlled s m d) (pick (eqb group 0xE) (moveEffect s m d) (chooseEffect s m d)))))))))))))
+-- the groups of what is no branch, one after the other
+other-groups : (group : ℕ) (s : State) (m : List ℕ) (d : Decoded) → Kept (d .cost) (unbranched group s m d)
 other-groups group s m d =
     both (Kept (d .cost)) (eqb group 0x3) _ _ (with-a s m d)
     (both (Kept (d .cost)) (eqb group 0x4) _ _ (with-b s m d)

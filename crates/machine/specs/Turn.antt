@@ -61,13 +61,10 @@ controlled s m d =
     pick (eqb (d .kind) SWI) (interruptEffect s m swiVector (d .cost))
     (pick (eqb (d .kind) TRAP) (interruptEffect s m trapVector (d .cost)) (jumpEffect s m d))
 
--- an instruction, by its group; PC of the state is the address after it
-unfoldable pub executed : State → List ℕ → Decoded → Effect
-executed s m d =
-    let group = d .kind / 16 in
-    pick (eqb group 0x1) (shortEffect s m d)
-    (pick (eqb group 0x2) (longEffect s m d)
-    (pick (eqb group 0x3) (withAEffect s m d)
+-- an instruction that is no branch, by its group
+abbrev pub unbranched : ℕ → State → List ℕ → Decoded → Effect
+unbranched group s m d =
+    pick (eqb group 0x3) (withAEffect s m d)
     (pick (eqb group 0x4) (withBEffect s m d)
     (pick (eqb group 0x5) (withWordEffect s m d)
     (pick (eqb group 0x6) (storeEffect s m d)
@@ -77,8 +74,13 @@ executed s m d =
     (pick (eqb group 0xA) (inherentEffect s m d)
     (pick (eqb group 0xB) (productEffect s m d)
     (pick (eqb group 0xC) (stackEffect s m d)
-    (pick (eqb group 0xD) (controlled s m d)
-    (pick (eqb group 0xE) (moveEffect s m d) (chooseEffect s m d))))))))))))))
+    (pick (eqb group 0xD) (controlled s m d) (pick (eqb group 0xE) (moveEffect s m d) (chooseEffect s m d))))))))))))
+
+-- an instruction, by its group; PC of the state is the address after it
+unfoldable pub executed : State → List ℕ → Decoded → Effect
+executed s m d =
+    let group = d .kind / 16 in
+    pick (eqb group 0x1) (shortEffect s m d) (pick (eqb group 0x2) (longEffect s m d) (unbranched group s m d))
 
 abbrev pub turnIs : Reply → Effect → Turn
 turnIs reply e = record { reply = reply; effect = e }
