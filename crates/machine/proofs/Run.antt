@@ -2,12 +2,11 @@
 use Prim.Native.Nat.{ℕ, zero, suc, _+_, _-_, _≤_, _<_}
 use native.Mathlib.Omega.{arith}
 use mathlib.Core.Path.{_≡_, refl, sym, _∙_, ap}
-use mathlib.Core.Bool.{Bool, true, false, not, _||_}
+use mathlib.Core.Bool.{Bool, true, false, _||_}
 use mathlib.Core.List.{List}
-use lib.Dec.{ltb, eqb}
+use lib.Dec.{ltb}
 use lib.ListN.{length}
 use borrow.Author.Tests.{lt-ltb, le-ltb, eq-eqb, ne-eqb, ltb-false}
-use Rattle.word.specs.Word.{pick}
 use Rattle.state.specs.declared.State.{State}
 use Rattle.schedule.specs.Schedule.{accepted, lineAt, lineBefore, passed, rising}
 use Rattle.schedule.proofs.Laws.{passed-later, line-of-place}
@@ -20,7 +19,7 @@ use Rattle.machine.specs.declared.Turn.{Turn}
 use Rattle.machine.specs.declared.Answer.{Answer}
 use Rattle.machine.specs.Names.{numberOf, recordLimit, budgetLimit, clockLimit}
 use Rattle.machine.specs.Turn.{turnOf}
-use Rattle.machine.specs.Step.{turnCost, turnState, turnMemory}
+use Rattle.machine.specs.Step.{turnState, turnMemory}
 use Rattle.machine.specs.Bounds.{AreBytes}
 use Rattle.machine.specs.End.{End, endsHere, Ends}
 use Rattle.machine.specs.Run.{after, goesOn, pastLimit, runOf}

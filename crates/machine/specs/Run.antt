@@ -1,7 +1,7 @@
 -- A run: steps taken one after another, each under the line byte in force at its boundary's clock (document 01, "Numbered replies",
 -- "Requests").
 use Prim.Native.Nat.{ℕ, zero, suc, _+_, _-_}
-use mathlib.Core.Bool.{Bool, true, false, not, _||_}
+use mathlib.Core.Bool.{Bool, not, _||_}
 use mathlib.Core.List.{List}
 use lib.Dec.{ltb, eqb}
 use lib.ListN.{length}

@@ -1,18 +1,14 @@
 -- Reset and a single step: reply, state, cycles used and all bytes, for every input (document 01, "Numbered replies").
 use Prim.Native.Nat.{ℕ, _+_}
-use mathlib.Core.Bool.{Bool, true, not}
+use mathlib.Core.Bool.{true, not}
 use mathlib.Core.List.{List}
 use lib.Dec.{ltb, eqb}
 use lib.ListN.{length}
 use Rattle.word.specs.Word.{pick}
 use Rattle.memory.specs.Memory.{wordAt, committed}
-use Rattle.state.specs.declared.Flags.{Flags}
 use Rattle.state.specs.declared.State.{State}
 use Rattle.state.specs.Ccr.{noFlags, setS, setX, setI}
 use Rattle.state.specs.State.{noState, withPc, withFlags, withClock}
-use Rattle.machine.specs.declared.Reply.{Reply}
-use Rattle.machine.specs.declared.Machine.{Machine}
-use Rattle.machine.specs.declared.Turn.{Turn}
 use Rattle.machine.specs.Names.{numberOf, memorySize, stepLimit, resetVector}
 use Rattle.machine.specs.Turn.{turnOf}
 use Rattle.machine.specs.End.{End, endsHere}

@@ -1,6 +1,6 @@
 -- What comes next at a boundary (document 01, "Numbered replies": entry, waiting, 4, 5; "Requests").
 use Prim.Native.Nat.{ℕ, _/_}
-use mathlib.Core.Bool.{Bool, true, false, _&&_, not}
+use mathlib.Core.Bool.{true, false, _&&_, not}
 use mathlib.Core.List.{List}
 use lib.Dec.{ltb, eqb}
 use Rattle.word.specs.Word.{pick, bitOf}
@@ -25,7 +25,7 @@ use Rattle.flow.specs.Stack.{stackEffect, interruptEffect}
 use Rattle.flow.specs.Jumps.{jumpEffect}
 use Rattle.flow.specs.Moves.{moveEffect}
 use Rattle.machine.specs.declared.Reply.{Reply}
-use Rattle.machine.specs.declared.Reply.the-variants.{Done, WrongMemory, WrongSchedule, PastLimit, Stopped, ReservedPostbyte}
+use Rattle.machine.specs.declared.Reply.the-variants.{Done, Stopped, ReservedPostbyte}
 use Rattle.machine.specs.declared.Turn.{Turn}
 use Rattle.machine.specs.Names.{swiVector, trapVector, lineVector, entryCost, wakeCost, idleCost}
 

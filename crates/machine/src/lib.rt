@@ -11,7 +11,7 @@ ghost use Prim.Native.Nat.{_<_, _≤_, _+_, suc};
 ghost use lib.ListN.{length};
 ghost use Rattle.schedule.specs.Schedule.{rising};
 ghost use Rattle.opcodes.specs.Map.{opcodeMap};
-ghost use Rattle.machine.specs.Names.{numberOf, lineVector, budgetLimit, clockLimit};
+ghost use Rattle.machine.specs.Names.{numberOf, lineVector, clockLimit};
 ghost use Rattle.machine.specs.Turn.{lowestLine, allowedLine, masked as maskedOf, entryEffect, wakeEffect, controlled as controlledOf, executed as executedOf, turnIs, ranOf, turnOf, instructed as instructedOf};
 ghost use Rattle.machine.specs.End.{Ends};
 ghost use Rattle.machine.specs.Step.{resetState, resetReply, resetOf, stepOf};

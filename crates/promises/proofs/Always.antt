@@ -1,14 +1,14 @@
 -- The machine answers, ends, and changes nothing else: on the definitions alone. Assumes nothing.
 use Prim.Native.Nat.{ℕ, zero, suc, _+_, _-_, _<_, _≤_}
 use native.Mathlib.Omega.{arith}
-use mathlib.Core.Path.{_≡_, refl, sym, _∙_, ap}
-use mathlib.Core.Bool.{Bool, true, false, not, _||_}
+use mathlib.Core.Path.{_≡_, refl, _∙_, ap}
+use mathlib.Core.Bool.{Bool, true, false, not}
 use mathlib.Core.List.{List}
 use lib.Dec.{ltb, eqb}
 use lib.ListN.{length}
 use borrow.Author.Tests.{ne-eqb}
 use Rattle.word.specs.Word.{pick}
-use Rattle.memory.specs.Memory.{noStore, committed}
+use Rattle.memory.specs.Memory.{committed}
 use Rattle.memory.proofs.Laws.{store-none}
 use Rattle.state.specs.declared.State.{State}
 use Rattle.state.specs.State.{withClock}
@@ -23,14 +23,14 @@ use Rattle.machine.specs.declared.Reply.{Reply}
 use Rattle.machine.specs.declared.Reply.the-variants.{Done, WrongMemory, WrongSchedule, PastLimit, Stopped, ReservedPostbyte}
 use Rattle.machine.specs.declared.Turn.{Turn}
 use Rattle.machine.specs.Names.{numberOf, memorySize, recordLimit}
-use Rattle.machine.specs.Turn.{allowedLine, turnIs, instructed, turnOf}
+use Rattle.machine.specs.Turn.{allowedLine, instructed, turnOf}
 use Rattle.machine.specs.Bounds.{AreBytes}
 use Rattle.machine.specs.End.{End, endsHere}
 use Rattle.machine.specs.Step.{refusal, turnState, turnMemory, turnCost, stepOf}
-use Rattle.machine.specs.Run.{after, goesOn, pastLimit, runRefusal, runOf}
+use Rattle.machine.specs.Run.{goesOn, pastLimit, runRefusal, runOf}
 use Rattle.machine.proofs.Run.{costs-one}
 use Rattle.promises.specs.Words.{Words}
-use Rattle.promises.specs.Steps.{turnAt, nextState, nextMemory, afterSteps, IsOfSteps}
+use Rattle.promises.specs.Steps.{turnAt, nextState, nextMemory, afterSteps}
 use Rattle.promises.specs.Always.{EveryRunReplies, EveryRunEnds, AStepNotDoneChangesNothing, ARefusedRunChangesNothing}
 use Rattle.promises.proofs.Words.{every-boundary-has-words}
 

@@ -1,29 +1,27 @@
 -- The bound is reached, by computation. Assumes nothing.
-use Prim.Native.Nat.{ℕ, zero, suc, _+_, _<_, _≤_}
+use Prim.Native.Nat.{ℕ, zero, suc, _+_, _<_}
 use native.Mathlib.Omega.{arith}
 use mathlib.Core.Path.{_≡_, refl}
-use mathlib.Core.Bool.{true, false}
+use mathlib.Core.Bool.{false}
 use mathlib.Core.List.{List, [], _∷_, _++_}
 use lib.ListN.{getD, replicate}
 use borrow.Author.Tests.{le-leb}
-use Rattle.word.specs.Word.{bitOf}
 use Rattle.memory.specs.Memory.{storeAll}
-use Rattle.schedule.specs.Schedule.{risingAfter, rising, inForce, lineAt}
+use Rattle.schedule.specs.Schedule.{risingAfter, rising, inForce}
 use Rattle.opcodes.specs.Grid.{families, familyOf, grid, gridAt}
 use Rattle.opcodes.specs.Map.{pageOne, pageTwo, cellOf}
 use Rattle.opcodes.specs.Postbyte.{formOf, extensionOf, reservedOf, lengthOf, costOf, untakenOf}
 use Rattle.operand.specs.Operand.{operandPlace}
 use Rattle.decode.specs.Decode.{fetchedOf}
-use Rattle.execute16.specs.Inherent.{firstInherent, secondInherent, inherentEffect}
+use Rattle.execute16.specs.Inherent.{secondInherent, inherentEffect}
 use Rattle.execute16.specs.Products.{accumulateEffect, productEffect}
 use Rattle.flow.specs.Stack.{interruptEffect}
 use Rattle.state.specs.declared.State.{State}
-use Rattle.machine.specs.Names.{numberOf}
 use Rattle.machine.specs.Bounds.{AreBytes}
 use Rattle.machine.specs.Step.{resetOf}
 use Rattle.machine.specs.Run.{runRefusal}
 use Rattle.machine.specs.Turn.{allowedLine, entryEffect, controlled, executed, instructed, turnOf}
-use Rattle.promises.specs.Steps.{turnAt, afterSteps}
+use Rattle.promises.specs.Steps.{afterSteps}
 use Rattle.promises.specs.Warning.{stateAt, StaysUp, FirstFrom, NoStopBefore}
 use Rattle.promises.proofs.Registers.{Below, none, more}
 use Rattle.promises.specs.Bound.{slowest, TheBoundIsReached, RowFourteen}

@@ -3,14 +3,13 @@ use Prim.Native.Nat.{ℕ, zero, suc, _+_, _-_, _<_, _≤_}
 use native.Mathlib.Omega.{arith}
 use mathlib.Core.Path.{_≡_, refl, sym, _∙_, ap}
 use mathlib.Core.Bool.{Bool, true, false}
-use mathlib.Core.List.{List, []}
+use mathlib.Core.List.{List}
 use lib.Dec.{ltb}
 use lib.ListN.{length, getD, take}
 use lib.Seq.{take-all, getD-take}
 use borrow.Author.Tests.{lt-ltb}
 use Rattle.word.specs.Word.{pick, plusW, minusW}
-use Rattle.memory.specs.declared.Store.{Store}
-use Rattle.memory.specs.Memory.{byteAt, committed, storeNine, noStore, runOf as bytesOf}
+use Rattle.memory.specs.Memory.{byteAt, committed, storeNine, runOf as bytesOf}
 use Rattle.memory.proofs.Laws.{store-keeps, store-none, stores-exactly}
 use Rattle.state.specs.declared.State.{State}
 use Rattle.state.specs.State.{withClock}

@@ -13,22 +13,20 @@ use Rattle.memory.proofs.Laws.{store-none}
 use Rattle.state.specs.declared.State.{State}
 use Rattle.state.specs.declared.Flags.{Flags}
 use Rattle.schedule.specs.Schedule.{lineAt}
-use Rattle.effect.specs.declared.Effect.{Effect}
 use Rattle.flow.specs.Stack.{frameOf, interruptEffect}
 use Rattle.machine.specs.declared.Reply.the-variants.{Done}
 use Rattle.machine.specs.declared.Turn.{Turn}
 use Rattle.machine.specs.Names.{numberOf, lineVector}
 use Rattle.machine.specs.Turn.{allowedLine, entryEffect, wakeEffect, turnIs, turnOf}
 use Rattle.machine.specs.Bounds.{AreBytes}
-use Rattle.machine.specs.Step.{turnState, turnMemory, resetOf}
+use Rattle.machine.specs.Step.{resetOf}
 use Rattle.machine.specs.Run.{runOf}
 use Rattle.machine.proofs.Bounds.{every-step-costs}
 use Rattle.machine.proofs.Run.{number-zero}
-use Rattle.promises.specs.Words.{Words}
 use Rattle.promises.specs.Steps.{turnAt, afterSteps, IsOfSteps}
 use Rattle.promises.specs.Warning.{stateAt, memoryAt, StaysUp, FirstFrom, NoStopBefore, Warned, TheWarningIsNeverLate}
 use Rattle.promises.proofs.Registers.{Below, word-at}
-use Rattle.promises.proofs.Steps.{Free, is-free}
+use Rattle.promises.proofs.Steps.{is-free}
 use Rattle.promises.proofs.Boundaries.{one-on, clock-at, Framed, nine-stored, Sound, sound-at}
 
 -- XIRQ up and X clear: line 0 is to be entered

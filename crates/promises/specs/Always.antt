@@ -1,6 +1,6 @@
 -- The machine always answers, always ends, and changes nothing that it does not say (the first demand). Each theorem is proved under the
 -- same name in proofs/Always.antt. That every function ends is proved with the function; here it is said of the run in numbers.
-use Prim.Native.Nat.{ℕ, _<_, _≤_}
+use Prim.Native.Nat.{ℕ, _≤_}
 use mathlib.Core.Path.{_≡_}
 use mathlib.Core.List.{List}
 use Rattle.state.specs.declared.State.{State}

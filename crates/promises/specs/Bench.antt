@@ -2,7 +2,6 @@
 -- what the paper says. Numbers are hexadecimal, as there. Proved as `bench-rows` in proofs/Bench.antt.
 use Prim.Native.Nat.{ℕ}
 use mathlib.Core.Path.{_≡_}
-use mathlib.Core.Bool.{Bool, true, false}
 use mathlib.Core.List.{List, [], _∷_, _++_}
 use lib.ListN.{replicate, getD}
 use Rattle.word.specs.Word.{wordOf}

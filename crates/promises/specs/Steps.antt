@@ -2,7 +2,6 @@
 use Prim.Native.Nat.{ℕ, zero, suc, _+_, _-_, _<_, _≤_}
 use mathlib.Core.Path.{_≡_}
 use mathlib.Core.List.{List}
-use lib.ListN.{length}
 use Rattle.state.specs.declared.State.{State}
 use Rattle.schedule.specs.Schedule.{lineAt}
 use Rattle.machine.specs.declared.Turn.{Turn}

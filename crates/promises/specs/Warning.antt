@@ -1,9 +1,9 @@
 -- The warning is never late (the third demand). Proved under the same names in proofs/Warning.antt.
 use Prim.Native.Nat.{ℕ, suc, _+_, _<_, _≤_}
 use mathlib.Core.Path.{_≡_}
-use mathlib.Core.Bool.{Bool, true, false}
+use mathlib.Core.Bool.{true, false}
 use mathlib.Core.List.{List}
-use lib.ListN.{length, getD}
+use lib.ListN.{getD}
 use Rattle.word.specs.Word.{bitOf, plusW}
 use Rattle.memory.specs.Memory.{byteAt, wordAt}
 use Rattle.state.specs.declared.State.{State}

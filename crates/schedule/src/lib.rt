@@ -1,7 +1,6 @@
 // The schedule: whether it is accepted, and the line byte in force, found by moving through the records once.
 ghost use mathlib.Core.Path.{_≡_};
 ghost use Prim.Native.Nat.{_≤_};
-ghost use lib.ListN.{length};
 ghost use Rattle.schedule.specs.Schedule.{rising as risingOf, accepted as acceptedOf, passed as passedOf, lineBefore};
 
 fn rising(cycles: &[u32]) -> bool

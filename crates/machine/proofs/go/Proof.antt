@@ -1,10 +1,8 @@
-use Prim.Native.Nat.{_≤_, _+_}
 use native.Mathlib.Omega.{arith}
-use mathlib.Core.Path.{_≡_, refl, sym, _∙_, ap}
+use mathlib.Core.Path.{sym, _∙_, ap}
 use borrow.Author.Needs.{needs}
 use Rattle.machine.specs.Turn.{turnOf}
-use Rattle.machine.specs.Run.{goesOn}
-use Rattle.machine.proofs.Run.{Going, begun, in-force-here, costs-some, turned, ends-stopped, ends-spent, turnHere}
+use Rattle.machine.proofs.Run.{Going, begun, in-force-here, costs-some, turned, ends-stopped, ends-spent}
 use Rattle.machine.proofs.go.Statement.{statement}
 use Rattle.machine.proofs.go.Tie as tie
 

@@ -1,4 +1,3 @@
-use borrow.Author.Needs.{needs}
 use borrow.Author.Tests.{eq-eqb, ne-eqb}
 use Rattle.machine.proofs.lowest_line.Statement.{statement}
 use Rattle.machine.proofs.lowest_line.Tie as tie

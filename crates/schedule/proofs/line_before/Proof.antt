@@ -1,5 +1,4 @@
 use Prim.Native.Nat.{_-_}
-use native.Mathlib.Omega.{arith}
 use borrow.Author.Needs.{needs}
 use Rattle.schedule.proofs.Laws.{line-past, line-inside}
 use Rattle.schedule.proofs.line_before.Statement.{statement}
