@@ -6,6 +6,7 @@
 --     Machine::step    OneStep
 --     Machine::run     OneRun
 --     records::run     OneRunOverRecords
+-- The three functions of the static library have theirs, `OneOutcome`, in crates/guide/specs/Doors.antt.
 use Prim.Native.Nat.{ℕ}
 use mathlib.Core.Path.{_≡_}
 use mathlib.Core.List.{List}

@@ -17,13 +17,13 @@ pub struct Record {
 const ROOM: usize = Machine::RECORDS + 1;
 
 // The first records of a schedule, as the machine's run takes them.
-struct Table {
+pub struct Table {
     cycles: [u32; ROOM],
     lines: [u8; ROOM],
     count: usize,
 }
 
-fn empty() -> Table
+pub fn empty() -> Table
     ensures { λ r. ⌜ r ≡ noRecords ⌝ }
 {
     Table {
@@ -33,7 +33,7 @@ fn empty() -> Table
     }
 }
 
-fn put(t: Table, r: Record) -> Table
+pub fn put(t: Table, r: Record) -> Table
     ensures { λ y. ⌜ y ≡ withRecord t r ⌝ }
 {
     let mut y = t;
@@ -58,7 +58,7 @@ fn gather(rs: &[Record]) -> Table
     t
 }
 
-fn run_table(machine: Machine, m: &mut [u8], t: Table, budget: u32) -> Answer
+pub fn run_table(machine: Machine, m: &mut [u8], t: Table, budget: u32) -> Answer
     requires { ⌜ t .count ≤ room ⌝ }
     ensures { λ r. ⌜ Ends (runOf (machine .state) (now (m .entry)) (tableCycles t) (tableLines t) budget) r (now (m .exit)) ⌝ }
 {

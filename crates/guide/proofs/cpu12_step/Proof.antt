@@ -1,0 +1,45 @@
+use borrow.Author.Needs.{needs}
+use mathlib.Core.Path.{sym, _∙_, ap}
+use Rattle.state.specs.declared.State.{State}
+use Rattle.machine.specs.Step.{stepOf}
+use Rattle.machine.proofs.Run.{ends-same}
+use Rattle.guide.proofs.Laws.{record-whole, door-refuses, door-opens, told-leaves}
+use Rattle.guide.proofs.cpu12_step.Statement.{statement}
+use Rattle.guide.proofs.cpu12_step.Tie as tie
+
+state-of-requires : tie.Need-state-of-requires
+state-of-requires c κs =
+    let passed = c .before in
+    let lent = passed .before .before .before .before .before .args in
+    record-whole (lent .state .now) (sym (passed .before .record-refusal .ensures) ∙ passed .if1 .left)
+
+told-requires : tie.Need-told-requires
+told-requires c κs =
+    let passed = c .before .before .before .before .before .before .before in
+    let lent = passed .before .before .before .before .before .args in
+    record-whole (lent .state .now) (sym (passed .before .record-refusal .ensures) ∙ passed .if1 .left)
+
+stepped : tie.Need-returns-2
+stepped c =
+    let answered = c .before .before .before .before .before in
+    let read = answered .before .before .before in
+    let passed = read .before .before in
+    let lent = passed .before .before .before .before .before .args in
+    door-opens _ _ _ _ (passed .before .record-refusal .ensures) (passed .if1 .left)
+    (told-leaves
+    (ends-same (ap (λ (s : State). stepOf s (lent .m .now) (lent .line)) (sym (read .state-of .ensures))) (answered .step .ensures))
+    (c .before .before .told .ensures))
+
+pub cpu12-step-spec : {M : Type 1} → statement M
+cpu12-step-spec =
+    tie.close
+    (tie.spec
+    (λ c κs. search needs)
+    (λ c. search needs)
+    (λ c. door-refuses _ _ _ _ (c .before .record-refusal .ensures) (c .if1 .taken))
+    state-of-requires
+    (λ c κs. search needs)
+    told-requires
+    (λ c. search needs)
+    (λ c. search needs)
+    stepped)

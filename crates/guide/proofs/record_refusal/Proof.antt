@@ -1,0 +1,33 @@
+use borrow.Author.Needs.{needs}
+use borrow.Author.Tests.{lt-ltb, le-ltb}
+use mathlib.Core.Path.{sym, _∙_}
+use native.Mathlib.Omega.{arith}
+use Rattle.guide.proofs.Laws.{other-length, first-refuses, first-passes}
+use Rattle.guide.proofs.record_refusal.Statement.{statement}
+use Rattle.guide.proofs.record_refusal.Tie as tie
+
+reads-flag : tie.Need-shared-slice-read-if2
+reads-flag c =
+    let asked = c .before .before in
+    let lent = asked .before .before .args in
+    omega (arith, other-length (lent .r .now) (sym (asked .length-refusal .ensures) ∙ c .before .if1 .left))
+
+wrong-flag : tie.Need-returns-2
+wrong-flag c =
+    let asked = c .before .before .before in
+    rw (first-passes _ _ (asked .length-refusal .ensures) (c .before .before .if1 .left), lt-ltb _ _ (c .if2 .taken))
+
+none : tie.Need-returns-3
+none c =
+    let asked = c .before .before .before in
+    rw (first-passes _ _ (asked .length-refusal .ensures) (c .before .before .if1 .left), le-ltb _ _ (c .if2 .left))
+
+pub record-refusal-spec : {M : Type 1} → statement M
+record-refusal-spec =
+    tie.close
+    (tie.spec
+    (λ c κs. search needs)
+    (λ c. first-refuses _ _ (c .before .length-refusal .ensures) (c .if1 .taken))
+    reads-flag
+    wrong-flag
+    none)

@@ -1,0 +1,86 @@
+-- What each door leaves, for every input: reply, state record and memory. The door's own refusals come before the machine's replies.
+use Prim.Native.Nat.{ℕ, _%_}
+use mathlib.Core.Path.{_≡_}
+use mathlib.Core.List.{List}
+use lib.Dec.{eqb, ltb}
+use lib.ListN.{length}
+use Rattle.word.specs.Word.{pick}
+use Rattle.machine.specs.End.{End}
+use Rattle.machine.specs.Step.{resetReply, resetOf, stepOf}
+use Rattle.machine.specs.Run.{runOf}
+use Rattle.records.specs.Records.{cyclesOf, linesOf}
+use Rattle.guide.specs.Bytes.{byteFrom, recordSize, waitingPlace, packedSize, stateOf, bytesOf, recordsOf}
+
+-- the numbers of the door's own refusals: a state record of another length, a waiting flag neither 0 nor 1, and a part of a record
+abbrev pub wrongLength : ℕ
+wrongLength = 100
+
+abbrev pub wrongFlag : ℕ
+wrongFlag = 101
+
+abbrev pub wrongPacking : ℕ
+wrongPacking = 102
+
+-- what a door leaves: the reply's number, the bytes of the state record, and the memory
+pub record Left : Type 0 where
+  pub reply : ℕ
+  pub state : List ℕ
+  pub memory : List ℕ
+
+-- an end of the machine, in bytes
+abbrev pub told : End → Left
+told e = record { reply = e .reply; state = bytesOf (e .state) (e .cycles); memory = e .memory }
+
+-- The tests of what is lent; 0 is no refusal. First the length of the state record, then its waiting flag; and a packed schedule must
+-- not end within a record.
+abbrev pub lengthRefusal : List ℕ → ℕ
+lengthRefusal r = pick (eqb (length r) recordSize) 0 wrongLength
+
+abbrev pub flagRefusal : List ℕ → ℕ
+flagRefusal r = pick (ltb 1 (byteFrom r waitingPlace)) wrongFlag 0
+
+abbrev pub packingRefusal : List ℕ → ℕ
+packingRefusal schedule = pick (eqb (length schedule % packedSize) 0) 0 wrongPacking
+
+-- the first of two tests that refuses
+unfoldable pub firstOf : ℕ → ℕ → ℕ
+firstOf a b = pick (eqb a 0) b a
+
+-- what a step and what a run are refused for
+abbrev pub recordRefusal : List ℕ → ℕ
+recordRefusal r = firstOf (lengthRefusal r) (flagRefusal r)
+
+abbrev pub lentRefusal : List ℕ → List ℕ → ℕ
+lentRefusal r schedule = firstOf (recordRefusal r) (packingRefusal schedule)
+
+-- what is left where nothing is refused; a refusal of the door's own leaves all as it was lent
+unfoldable pub unless : ℕ → List ℕ → List ℕ → Left → Left
+unless refusal r m l = pick (eqb refusal 0) l (record { reply = refusal; state = r; memory = m })
+
+-- a reset needs no state: of the record it asks the length alone
+abbrev pub resetLeaves : List ℕ → List ℕ → Left
+resetLeaves r m = unless (lengthRefusal r) r m (record { reply = resetReply m; state = bytesOf (resetOf m) 0; memory = m })
+
+-- a step of the state in the record
+abbrev pub stepLeaves : List ℕ → List ℕ → ℕ → Left
+stepLeaves r m line = unless (recordRefusal r) r m (told (stepOf (stateOf r) m line))
+
+-- a run of the state in the record, over the records of a packed schedule
+abbrev pub runLeaves : List ℕ → List ℕ → List ℕ → ℕ → Left
+runLeaves r m schedule budget =
+    unless (lentRefusal r schedule) r m
+    (told (runOf (stateOf r) m (cyclesOf (recordsOf schedule)) (linesOf (recordsOf schedule)) budget))
+
+-- What is promised of a door's reply, and of the record r′ and the memory m′ at exit: they are what is left.
+pub record Leaves (l : Left) (reply : ℕ) (r′ m′ : List ℕ) : Type 0 where
+  pub reply-is : reply ≡ l .reply
+  pub state-is : r′ ≡ l .state
+  pub memory-is : m′ ≡ l .memory
+
+-- No second outcome satisfies a door's promise; proved under the same name in proofs/Laws.antt.
+abbrev pub OneOutcome : Type 0
+OneOutcome =
+    (l : Left) (reply reply′ : ℕ) (r r′ m m′ : List ℕ) →
+    Leaves l reply r m →
+    Leaves l reply′ r′ m′ →
+    (reply ≡ reply′) × ((r ≡ r′) × (m ≡ m′))
