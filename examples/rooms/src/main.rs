@@ -1,0 +1,28 @@
+//! A museum's rehang, replayed: first with the old design's two clocks, then with the sign's own firmware in both tiers of the
+//! guide, and at last with a power warning at every cycle of the rehang. It prints a short account, the same each time.
+#![cfg_attr(feature = "plain_start", no_main)]
+
+mod account;
+mod museum;
+mod old;
+mod power;
+mod sign;
+mod tiers;
+
+#[cfg(not(feature = "plain_start"))]
+fn main() -> std::io::Result<()> {
+    account::tell()
+}
+
+/// The start for the emulator that stands in for x86-64 on another processor: Rust's own does not run there.
+#[cfg(feature = "plain_start")]
+#[no_mangle]
+pub extern "C" fn main() -> std::os::raw::c_int {
+    match account::tell() {
+        Ok(()) => 0,
+        Err(error) => {
+            eprintln!("rooms: {}", error);
+            1
+        }
+    }
+}
