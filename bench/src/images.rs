@@ -1,0 +1,186 @@
+//! The five images. Each begins at $4000; $0000 to $1FFF are its data and its stack.
+
+use crate::program;
+use crate::CYCLES;
+use cpu12::doors::MEMORY;
+use cpu12::Record;
+
+pub struct Image {
+    pub name: &'static str,
+    pub memory: Vec<u8>,
+    pub schedule: Vec<Record>,
+}
+
+pub fn all() -> Vec<Image> {
+    vec![
+        plain("load, store, ALU", LOAD_STORE),
+        plain("branches", BRANCHES),
+        plain("multiply, divide", MULTIPLY),
+        interrupts(),
+        plain("random program", &program::random(1)),
+    ]
+}
+
+/// Where every image begins.
+pub const START: u16 = 0x4000;
+
+const RESET_VECTOR: u16 = 0xFFFE;
+
+fn put(memory: &mut [u8], at: u16, bytes: &[u8]) {
+    let at = usize::from(at);
+    memory[at..at + bytes.len()].copy_from_slice(bytes);
+}
+
+/// Code at $4000, with the reset vector that leads there and no requests.
+fn plain(name: &'static str, code: &[u8]) -> Image {
+    let mut memory = vec![0; MEMORY];
+    put(&mut memory, START, code);
+    put(&mut memory, RESET_VECTOR, &START.to_be_bytes());
+    Image { name, memory, schedule: Vec::new() }
+}
+
+/// A pass over 2,048 bytes, again and again.
+#[rustfmt::skip]
+const LOAD_STORE: &[u8] = &[
+    0xCE, 0x10, 0x00, // 4000 LDX  #$1000
+    0xCD, 0x18, 0x00, // 4003 LDY  #$1800
+    0xA6, 0x30,       // 4006 LDAA 1,X+
+    0xAB, 0x00,       //      ADDA 0,X
+    0x88, 0x5A,       //      EORA #$5A
+    0x6A, 0x70,       //      STAA 1,Y+
+    0xF6, 0x20, 0x00, //      LDAB $2000
+    0xC9, 0x03,       //      ADCB #3
+    0x7B, 0x20, 0x00, //      STAB $2000
+    0xEC, 0x00,       //      LDD  0,X
+    0xE3, 0xE8, 0x10, //      ADDD 16,Y
+    0x7C, 0x20, 0x02, //      STD  $2002
+    0x96, 0x10,       //      LDAA $10
+    0x44,             //      LSRA
+    0x5A, 0x11,       //      STAA $11
+    0x72, 0x20, 0x10, //      INC  $2010
+    0x62, 0x05,       //      INC  5,X
+    0x8E, 0x18, 0x00, //      CPX  #$1800
+    0x26, 0xD9,       //      BNE  $4006
+    0x20, 0xD1,       //      BRA  $4000
+];
+
+/// Short, long, bit and loop branches, some taken and some not, and a subroutine.
+#[rustfmt::skip]
+const BRANCHES: &[u8] = &[
+    0xCF, 0x20, 0x00,       // 4000 LDS   #$2000
+    0xCE, 0x00, 0x00,       // 4003 LDX   #0
+    0x08,                   // 4006 INX
+    0x72, 0x00, 0x20,       //      INC   $0020
+    0xB7, 0x54,             //      TFR   X,D
+    0xC1, 0x40,             //      CMPB  #$40
+    0x25, 0x02,             //      BCS   *+4
+    0x42,                   //      INCA
+    0x42,                   //      INCA
+    0xC5, 0x01,             //      BITB  #$01
+    0x27, 0x03,             //      BEQ   *+5
+    0x7A, 0x10, 0x00,       //      STAA  $1000
+    0x81, 0x08,             //      CMPA  #8
+    0x2D, 0x02,             //      BLT   *+4
+    0x20, 0x01,             //      BRA   *+3
+    0x50,                   //      NEGB
+    0x22, 0x01,             //      BHI   *+3
+    0xA7,                   //      NOP
+    0x4F, 0x20, 0x01, 0x01, //      BRCLR $20,#$01,*+5
+    0xA7,                   //      NOP
+    0x07, 0x0B,             //      BSR   $4035
+    0x18, 0x26, 0x00, 0x01, //      LBNE  *+5
+    0xA7,                   //      NOP
+    0x04, 0x61, 0x01,       //      TBNE  B,*+4
+    0xA7,                   //      NOP
+    0x20, 0xD1,             //      BRA   $4006
+    0x97,                   // 4035 TSTA
+    0x2B, 0x01,             //      BMI   *+3
+    0xA7,                   //      NOP
+    0x3D,                   //      RTS
+];
+
+/// Every multiplication and division; $1000 holds a number that changes each time.
+#[rustfmt::skip]
+const MULTIPLY: &[u8] = &[
+    0xFC, 0x10, 0x00,       // 4000 LDD   $1000
+    0xC3, 0x12, 0x35,       //      ADDD  #$1235
+    0x7C, 0x10, 0x00,       //      STD   $1000
+    0x12,                   //      MUL
+    0xFD, 0x10, 0x00,       //      LDY   $1000
+    0x13,                   //      EMUL
+    0xCE, 0xA1, 0x37,       //      LDX   #$A137
+    0x11,                   //      EDIV
+    0x7D, 0x10, 0x02,       //      STY   $1002
+    0x7C, 0x10, 0x04,       //      STD   $1004
+    0xFC, 0x10, 0x00,       //      LDD   $1000
+    0x18, 0x13,             //      EMULS
+    0x18, 0x14,             //      EDIVS
+    0xFC, 0x10, 0x00,       //      LDD   $1000
+    0xCE, 0x00, 0x1D,       //      LDX   #29
+    0x18, 0x10,             //      IDIV
+    0xFC, 0x10, 0x02,       //      LDD   $1002
+    0xCE, 0xFF, 0xF3,       //      LDX   #-13
+    0x18, 0x15,             //      IDIVS
+    0xFC, 0x10, 0x04,       //      LDD   $1004
+    0xCE, 0xF0, 0x01,       //      LDX   #$F001
+    0x18, 0x11,             //      FDIV
+    0xCE, 0x10, 0x00,       //      LDX   #$1000
+    0xCD, 0x10, 0x02,       //      LDY   #$1002
+    0x18, 0x12, 0x10, 0x08, //      EMACS $1008
+    0x20, 0xBD,             //      BRA   $4000
+];
+
+/// Opens both masks, and calls the software interrupt and a trap.
+#[rustfmt::skip]
+const REQUESTED: &[u8] = &[
+    0xCF, 0x20, 0x00, // 4000 LDS   #$2000
+    0x10, 0xAF,       // 4003 ANDCC #$AF
+    0x08,             //      INX
+    0x3F,             //      SWI
+    0x18, 0x30,       //      TRAP  $30
+    0x20, 0xF8,       //      BRA   $4003
+];
+
+/// A handler sets its mask in the frame, so that the program goes on before the next request is entered.
+#[rustfmt::skip]
+const HANDLERS: [(u16, [u8; 7]); 3] = [
+    (0x4100, [
+        0x72, 0x10, 0x00, // 4100 INC  $1000
+        0x0C, 0x80, 0x10, //      BSET 0,SP,#$10
+        0x0B,             //      RTI
+    ]),
+    (0x4200, [
+        0x72, 0x10, 0x01, // 4200 INC  $1001
+        0x0C, 0x80, 0x50, //      BSET 0,SP,#$50
+        0x0B,             //      RTI
+    ]),
+    (0x4300, [
+        0x72, 0x10, 0x02, // 4300 INC  $1002
+        0xA7,             //      NOP
+        0xA7,             //      NOP
+        0xA7,             //      NOP
+        0x0B,             //      RTI
+    ]),
+];
+
+/// The trap, SWI, XIRQ, IRQ and the six devices, from $FFF8 downward.
+const HANDLER_OF: [u16; 10] =
+    [0x4300, 0x4300, 0x4200, 0x4100, 0x4100, 0x4100, 0x4100, 0x4100, 0x4100, 0x4100];
+
+/// The line bytes, each in force for a 64th of the run.
+const LINES: [u8; 8] = [0x02, 0x01, 0x84, 0x03, 0x80, 0x00, 0x40, 0x05];
+
+const APART: u32 = CYCLES / 64;
+
+fn interrupts() -> Image {
+    let mut image = plain("interrupts", REQUESTED);
+    for (at, handler) in &HANDLERS {
+        put(&mut image.memory, *at, handler);
+    }
+    for (vector, handler) in (0..).map(|i| 0xFFF8 - 2 * i).zip(&HANDLER_OF) {
+        put(&mut image.memory, vector, &handler.to_be_bytes());
+    }
+    let record = |i: u32| Record { cycle: i * APART, line: LINES[i as usize % LINES.len()] };
+    image.schedule = (0..64).map(record).collect();
+    image
+}

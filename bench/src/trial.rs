@@ -1,0 +1,78 @@
+//! One run on one machine, and its time.
+
+use crate::images::Image;
+use cpu12::{Error, Machine, State};
+use second::machine;
+use std::time::{Duration, Instant};
+
+/// The shortest time so far.
+pub struct Timed {
+    best: Duration,
+}
+
+impl Timed {
+    pub fn never() -> Timed {
+        Timed { best: Duration::MAX }
+    }
+
+    pub fn seconds(&self) -> f64 {
+        self.best.as_secs_f64()
+    }
+
+    fn take<T>(&mut self, work: impl FnOnce() -> T) -> T {
+        let begun = Instant::now();
+        let result = work();
+        self.best = self.best.min(begun.elapsed());
+        result
+    }
+}
+
+/// What a run leaves.
+#[derive(Debug, PartialEq, Eq)]
+pub struct Left {
+    pub reply: u32,
+    pub cycles: u32,
+    pub state: State,
+    pub memory: Vec<u8>,
+}
+
+impl Left {
+    /// What can be shown in a line or two.
+    pub fn without_memory(&self) -> Left {
+        Left { memory: Vec::new(), ..*self }
+    }
+}
+
+pub fn by_the_proved(image: &Image, budget: u32, timed: &mut Timed) -> Left {
+    let mut memory = image.memory.clone();
+    let mut machine = Machine::new(State::default());
+    let answer = timed.take(|| {
+        machine.reset(&memory)?;
+        machine.run(&mut memory, &image.schedule, budget)
+    });
+    let reply = answer.map_or_else(Error::number, |_| 0);
+    Left { reply, cycles: machine.cycles(), state: machine.state(), memory }
+}
+
+pub fn by_the_second(image: &Image, budget: u32, timed: &mut Timed) -> Left {
+    let mut memory = image.memory.clone();
+    let to_record = |r: &cpu12::Record| machine::Record { cycle: r.cycle, lines: r.line };
+    let schedule: Vec<machine::Record> = image.schedule.iter().map(to_record).collect();
+    let (cpu, outcome) = timed.take(|| {
+        let (mut cpu, _) = machine::reset(&memory);
+        let outcome = machine::run(&mut cpu, &mut memory, &schedule, budget);
+        (cpu, outcome)
+    });
+    let state = State {
+        a: cpu.a,
+        b: cpu.b,
+        x: cpu.x,
+        y: cpu.y,
+        sp: cpu.sp,
+        pc: cpu.pc,
+        ccr: cpu.ccr,
+        waiting: cpu.waiting,
+        clock: cpu.clock,
+    };
+    Left { reply: u32::from(outcome.reply.number()), cycles: outcome.cycles, state, memory }
+}
