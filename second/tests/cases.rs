@@ -246,9 +246,12 @@ fn edges_of_steps_are_generated() {
     let mut memories = Memories::default();
     let (mut at_the_edge, mut inside, mut after) = (0, 0, 0);
     for case in generated(Kind::Run, 3_000, 11) {
-        let Action::Run { budget, .. } = &case.action else { continue };
+        let budget = match &case.action {
+            Action::Run { budget, .. } => *budget,
+            _ => continue,
+        };
         let outcome = answer(&case, &mut memories).outcome;
-        if outcome.reply != Reply::Done || *budget == 0 {
+        if outcome.reply != Reply::Done || budget == 0 {
             continue;
         }
         match budget - outcome.cycles {
