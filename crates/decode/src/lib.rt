@@ -55,8 +55,11 @@ fn reserved_at(m: &[u8], c: Cell, at: u16) -> bool
     ensures { λ r. ⌜ r ≡ reservedAt (now (m .entry)) c at ⌝ }
 {
     let first = opcodes::reserved(c, memory::read_byte(m, at));
-    let second = opcodes::reserved(c, memory::read_byte(m, word::plus(at, 1)));
-    first | (c.mode == ID_ID) & second
+    if c.mode == ID_ID {
+        let second = opcodes::reserved(c, memory::read_byte(m, word::plus(at, 1)));
+        return first | second;
+    }
+    first
 }
 
 fn decoded_at(m: &[u8], pc: u16, c: Cell, at: u16) -> Decoded

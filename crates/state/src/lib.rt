@@ -17,14 +17,15 @@ pub struct Flags {
     pub c: bool,
 }
 
+// In this order the eight flags begin at a multiple of eight bytes, and a state is copied in whole words (docs/SPEED.md).
 pub struct State {
-    pub a: u8,
-    pub b: u8,
     pub x: u16,
     pub y: u16,
     pub sp: u16,
     pub pc: u16,
     pub flags: Flags,
+    pub a: u8,
+    pub b: u8,
     pub waiting: bool,
     pub clock: u32,
 }
