@@ -37,8 +37,9 @@ abbrev pub NoStopBefore : ℕ → List ℕ → List ℕ → List ℕ → Type 0
 NoStopBefore n m cycles lines =
     (k : ℕ) → k < n → numberOf (turnAt cycles lines (stateAt k m cycles lines) (memoryAt k m cycles lines) .reply) ≡ 0
 
--- XIRQ is entered at boundary n: the run takes that step, and it ends by T + 21. Then PC is the word that the XIRQ vector held just
--- before, X and I are set, and the nine bytes at SP hold the registers that were interrupted.
+-- XIRQ is entered at boundary n: the run takes that step, however many steps it takes (`ARunIsItsSteps`: there is such a number), and
+-- the entry ends by T + 21. Then PC is the word that the XIRQ vector held just before, X and I are set, and the nine bytes at SP hold
+-- the registers that were interrupted.
 pub record Warned (T n : ℕ) (m cycles lines : List ℕ) (budget : ℕ) : Type 0 where
   pub entered : allowedLine (stateAt n m cycles lines .flags) (lineAt cycles lines (stateAt n m cycles lines .clock)) ≡ 0
   pub taken : (steps : ℕ) → IsOfSteps steps (resetOf m) m cycles lines budget (runOf (resetOf m) m cycles lines budget) → n < steps
