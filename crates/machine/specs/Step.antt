@@ -38,14 +38,15 @@ turnState s m line = withClock (turnOf s m line .effect .state) (s .clock + turn
 abbrev pub turnMemory : State → List ℕ → ℕ → List ℕ
 turnMemory s m line = committed m (turnOf s m line .effect .store)
 
--- a step: refused it leaves all as it was
-unfoldable pub stepOf : State → List ℕ → ℕ → End
-stepOf s m line =
-    pick (eqb (refusal s m) 0)
-    (record {
+abbrev pub turnEnd : State → List ℕ → ℕ → End
+turnEnd s m line =
+    record {
       reply = numberOf (turnOf s m line .reply);
       state = turnState s m line;
       memory = turnMemory s m line;
       cycles = turnCost s m line;
-    })
-    (endsHere (refusal s m) s m)
+    }
+
+-- a step: refused it leaves all as it was
+unfoldable pub stepOf : State → List ℕ → ℕ → End
+stepOf s m line = pick (eqb (refusal s m) 0) (turnEnd s m line) (endsHere (refusal s m) s m)

@@ -26,7 +26,7 @@ use Rattle.machine.specs.Names.{numberOf, memorySize, recordLimit}
 use Rattle.machine.specs.Turn.{allowedLine, instructed, turnOf}
 use Rattle.machine.specs.Bounds.{AreBytes}
 use Rattle.machine.specs.End.{End, endsHere}
-use Rattle.machine.specs.Step.{refusal, turnState, turnMemory, turnCost, stepOf}
+use Rattle.machine.specs.Step.{refusal, turnEnd, stepOf}
 use Rattle.machine.specs.Run.{goesOn, pastLimit, runRefusal, runOf}
 use Rattle.machine.proofs.Run.{costs-one}
 use Rattle.promises.specs.Words.{Words}
@@ -110,19 +110,10 @@ pub a-step-not-done-changes-nothing : AStepNotDoneChangesNothing
 unfolding stepOf
 a-step-not-done-changes-nothing s m line = go (eqb (refusal s m) 0)
   where
-    turned : End
-    turned =
-        record {
-          reply = numberOf (turnOf s m line .reply);
-          state = turnState s m line;
-          memory = turnMemory s m line;
-          cycles = turnCost s m line;
-        }
-
     go :
         (b : Bool) →
-        (pick b turned (endsHere (refusal s m) s m) .reply ≡ 0 → ⊥) →
-        pick b turned (endsHere (refusal s m) s m) ≡ endsHere (pick b turned (endsHere (refusal s m) s m) .reply) s m
+        (pick b (turnEnd s m line) (endsHere (refusal s m) s m) .reply ≡ 0 → ⊥) →
+        pick b (turnEnd s m line) (endsHere (refusal s m) s m) ≡ endsHere (pick b (turnEnd s m line) (endsHere (refusal s m) s m) .reply) s m
     go false other = refl
     go true other =
         let idle = turn-idle s m line .nothing other in

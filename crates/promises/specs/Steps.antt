@@ -8,7 +8,7 @@ use Rattle.machine.specs.declared.Turn.{Turn}
 use Rattle.machine.specs.Names.{numberOf}
 use Rattle.machine.specs.Turn.{turnOf}
 use Rattle.machine.specs.End.{End, endsHere}
-use Rattle.machine.specs.Step.{refusal, turnCost, turnState, turnMemory, stepOf}
+use Rattle.machine.specs.Step.{refusal, turnState, turnMemory, turnEnd, stepOf}
 use Rattle.machine.specs.Run.{after, runRefusal, runOf}
 use Rattle.machine.specs.Bounds.{AreBytes}
 use Rattle.promises.specs.Words.{Words}
@@ -19,13 +19,7 @@ abbrev pub AStepIsATurn : Type 0
 AStepIsATurn =
     (s : State) (m : List ℕ) (line : ℕ) →
     refusal s m ≡ 0 →
-    stepOf s m line
-    ≡ record {
-      reply = numberOf (turnOf s m line .reply);
-      state = turnState s m line;
-      memory = turnMemory s m line;
-      cycles = turnCost s m line;
-    }
+    stepOf s m line ≡ turnEnd s m line
 
 -- the turn at a boundary, under the line byte in force at its clock, and the next boundary's state and memory
 abbrev pub turnAt : List ℕ → List ℕ → State → List ℕ → Turn
