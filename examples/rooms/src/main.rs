@@ -9,16 +9,26 @@ mod power;
 mod sign;
 mod tiers;
 
+use std::io;
+
+/// Prints the account. That its reader may leave before the end is no failure.
+fn tell() -> io::Result<()> {
+    match account::tell(&mut io::stdout().lock()) {
+        Err(error) if error.kind() == io::ErrorKind::BrokenPipe => Ok(()),
+        told => told,
+    }
+}
+
 #[cfg(not(feature = "plain_start"))]
-fn main() -> std::io::Result<()> {
-    account::tell()
+fn main() -> io::Result<()> {
+    tell()
 }
 
 /// The start for the emulator that stands in for x86-64 on another processor: Rust's own does not run there.
 #[cfg(feature = "plain_start")]
 #[no_mangle]
 pub extern "C" fn main() -> std::os::raw::c_int {
-    match account::tell() {
+    match tell() {
         Ok(()) => 0,
         Err(error) => {
             eprintln!("rooms: {}", error);
