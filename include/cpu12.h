@@ -2,7 +2,7 @@
  * The CPU12 machine, for C: reset, one step, and a run, over lent bytes.
  *
  * Link target/staticlib/libguide.a, which `rt staticlib guide` writes, into an x86-64 program. docs/GUIDE-ABI.md says what is
- * proved of the three functions.
+ * proved of the functions.
  *
  * What a caller owes: each pointer points at as many bytes as the length beside it says (it is not null, and of length 0 it is not
  * read), and the buffers of one call do not overlap. Nothing else is owed: every length and every byte may be given, and what is
@@ -22,14 +22,14 @@ extern "C" {
 #define CPU12_MEMORY 65536
 
 /*
- * The state record: 20 bytes. A number of more than one byte has its highest byte first, as in the machine's memory.
+ * The state record. A number of more than one byte has its highest byte first, as in the machine's memory.
  *
  *    0  A            6  SP, two bytes    12  the clock, four bytes
  *    1  B            8  PC, two bytes    16  the cycles that the last operation used, four bytes
  *    2  X, two      10  CCR
  *    4  Y, two      11  1 while the machine waits, else 0
  *
- * The last four bytes are written and not read.
+ * The cycles used are written and not read.
  */
 #define CPU12_STATE 20
 #define CPU12_AT_A 0
@@ -59,7 +59,7 @@ extern "C" {
 #define CPU12_RESERVED_POSTBYTE 5 /* a postbyte of the instruction is reserved */
 
 /* The refusals of these functions, tested before the machine's own. They change nothing at all. */
-#define CPU12_WRONG_LENGTH 100  /* the state record is not 20 bytes long */
+#define CPU12_WRONG_LENGTH 100  /* the state record is not CPU12_STATE bytes long */
 #define CPU12_WRONG_FLAG 101    /* the byte of the waiting flag is neither 0 nor 1 */
 #define CPU12_WRONG_PACKING 102 /* the schedule's bytes are not a whole number of records */
 

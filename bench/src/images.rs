@@ -1,4 +1,4 @@
-//! The five images. Each begins at $4000; $0000 to $1FFF are its data and its stack.
+//! The images. Each begins at $4000; $0000 to $1FFF are its data and its stack.
 
 use crate::program;
 use crate::CYCLES;

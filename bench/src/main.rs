@@ -3,16 +3,12 @@
 //! Each image is run from reset, with the same schedule and budget on both machines. What they leave has to be the same to the last
 //! register and byte. docs/SPEED.md says what the images are and has the figures. The number of cycles may be given, for a short look.
 
-mod images;
-mod program;
-mod trial;
-
-use images::Image;
+use bench::images::{self, Image};
+use bench::trial::{self, Left, Timed};
+use bench::CYCLES;
 use std::process::ExitCode;
-use trial::{Left, Timed};
 
-/// The cycles of each run, and how often it is repeated; the shortest time counts.
-const CYCLES: u32 = 50_000_000;
+/// How often a run is repeated; the shortest time counts.
 const REPEATS: u32 = 3;
 
 /// What both machines did with an image.

@@ -54,10 +54,24 @@ pub fn by_the_proved(image: &Image, budget: u32, timed: &mut Timed) -> Left {
     Left { reply, cycles: machine.cycles(), state: machine.state(), memory }
 }
 
+fn schedule_for_the_second(image: &Image) -> Vec<machine::Record> {
+    let to_record = |r: &cpu12::Record| machine::Record { cycle: r.cycle, lines: r.line };
+    image.schedule.iter().map(to_record).collect()
+}
+
+/// How many steps a run takes.
+pub fn steps(image: &Image, budget: u32) -> u32 {
+    let mut memory = image.memory.clone();
+    let (mut cpu, _) = machine::reset(&memory);
+    let schedule = schedule_for_the_second(image);
+    let mut steps = 0;
+    machine::run_watched(&mut cpu, &mut memory, &schedule, budget, &mut |_, _, _| steps += 1);
+    steps
+}
+
 pub fn by_the_second(image: &Image, budget: u32, timed: &mut Timed) -> Left {
     let mut memory = image.memory.clone();
-    let to_record = |r: &cpu12::Record| machine::Record { cycle: r.cycle, lines: r.line };
-    let schedule: Vec<machine::Record> = image.schedule.iter().map(to_record).collect();
+    let schedule = schedule_for_the_second(image);
     let (cpu, outcome) = timed.take(|| {
         let (mut cpu, _) = machine::reset(&memory);
         let outcome = machine::run(&mut cpu, &mut memory, &schedule, budget);

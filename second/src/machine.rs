@@ -13,7 +13,7 @@ pub const MOST_STEP_CLOCK: u32 = 3_999_999_900;
 /// The longest schedule.
 pub const MOST_RECORDS: usize = 64;
 
-/// The replies 0 to 5.
+/// The numbered replies.
 #[derive(Clone, Copy, Debug, PartialEq, Eq)]
 pub enum Reply {
     /// The step or reset was done; the run's next step costs more than is left.
@@ -24,7 +24,7 @@ pub enum Reply {
     WrongSchedule,
     /// The clock or the budget is too large.
     WrongTime,
-    /// One of the ten encodings that stop the machine.
+    /// An encoding that stops the machine.
     Stop,
     /// A reserved postbyte.
     Reserved,

@@ -144,7 +144,7 @@ pub const GRID: [[u8; 8]; 17] = [
 /// What a cell costs.
 #[derive(Clone, Copy, Debug, PartialEq, Eq)]
 pub enum Cost {
-    /// One of the ten encodings that stop the machine.
+    /// An encoding that stops the machine.
     Stops,
     /// The prebyte alone costs nothing: its cycle belongs to the page 2 cell.
     Prebyte,

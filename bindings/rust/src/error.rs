@@ -13,7 +13,7 @@ pub enum Error {
     Stopped,
     /// 5: a postbyte of the instruction is reserved.
     ReservedPostbyte,
-    /// 100: the state record is not 20 bytes long. A `Machine` never gives it.
+    /// 100: the state record has another length. A `Machine` never gives it.
     WrongLength,
     /// 101: the byte of the waiting flag is neither 0 nor 1. A `Machine` never gives it.
     WrongFlag,

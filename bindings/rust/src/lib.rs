@@ -1,6 +1,6 @@
 //! The proved CPU12 machine, for Rust.
 //!
-//! [`Machine`] is the machine's state; the memory is the caller's, 65,536 bytes that are lent to each operation. [`doors`] has the three
+//! [`Machine`] is the machine's state; the memory is the caller's, 65,536 bytes that are lent to each operation. [`doors`] has the
 //! functions of the static library as they are, over slices. Both are safe: Rust sees to it that lent slices do not overlap and have
 //! their lengths, and everything else is tested behind the boundary.
 #![deny(missing_docs)]

@@ -63,7 +63,7 @@ fn schedules() {
     assert_eq!({ machine }.run(&mut memory, &falling, 1), Err(Error::WrongSchedule));
 }
 
-/// The three doors' numbers on these bytes. Where all of them refuse, nothing may have changed, but that a reset with a memory of
+/// The doors' numbers on these bytes. Where all of them refuse, nothing may have changed, but that a reset with a memory of
 /// another length gives PC 0.
 fn numbers(state: &[u8], memory: &[u8], schedule: &[u8]) -> (u32, u32, u32) {
     let (mut s, mut m) = (state.to_vec(), memory.to_vec());

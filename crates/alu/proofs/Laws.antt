@@ -45,7 +45,18 @@ pub top-upper : (k n : ℕ) → n < 2 ^ suc k → leb (2 ^ k) n ≡ bitOf k n
 top-upper k n l = rw (mod-eq-of-lt l) at (bit-upper k n)
 
 -- The formula for a carry, of two numbers below g, whose upper half begins at h: their sum is r, or r + g where it holds.
-carries : (h g x m c r : ℕ) (o : Bool) (a b d : Bool) → leb h x ≡ a → leb h m ≡ b → leb h r ≡ d → g ≡ h + h → x < g → m < g → r < g → c ≤ 1 → x + m + c ≡ r + weightOf o g → o ≡ (a && b || b && not d || not d && a)
+carries :
+    (h g x m c r : ℕ) (o : Bool) (a b d : Bool) →
+    leb h x ≡ a →
+    leb h m ≡ b →
+    leb h r ≡ d →
+    g ≡ h + h →
+    x < g →
+    m < g →
+    r < g →
+    c ≤ 1 →
+    x + m + c ≡ r + weightOf o g →
+    o ≡ (a && b || b && not d || not d && a)
 carries h g x m c r true true true d p q s w i j k l e = refl
 carries h g x m c r true true false false p q s w i j k l e = refl
 carries h g x m c r true false true false p q s w i j k l e = refl

@@ -180,10 +180,6 @@ inxWord f x = wideOf (oneMore 15 x) (λ r. setZ f (eqb r 0))
 abbrev pub dexWord : Flags → ℕ → Word
 dexWord f x = wideOf (oneLess 15 x) (λ r. setZ f (eqb r 0))
 
--- LEAX, LEAY, LEAS, and so ABX, ABY, INS, DES: the address, and no code is affected
-abbrev pub leaWord : Flags → ℕ → Word
-leaWord f address = wideOf address (λ r. f)
-
 -- EMAXD, EMAXM
 abbrev pub maxWord : Flags → ℕ → ℕ → Word
 maxWord f x m = wideOf (max x m) (λ _. differenceCodes 15 f x m (differenceOf 15 x m false))

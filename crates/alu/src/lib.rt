@@ -6,7 +6,7 @@ ghost use mathlib.Core.Bool.{_&&_, _||_, not};
 ghost use Prim.Native.Nat.{_+_, _-_, _%_, _≤_};
 ghost use Rattle.word.specs.Word.{bitOf};
 ghost use Rattle.state.specs.Ccr.{weightOf};
-ghost use Rattle.alu.specs.Alu.{setNZV, setNZVC, sumCodes, differenceCodes, resultCodes, addByte, subByte, andByte, orByte, eorByte, bclrByte, allClear, allSet, tstByte, clrByte, comByte, negByte, incByte, decByte, maxByte, minByte, addWord, subWord, inxWord, dexWord, leaWord, maxWord, minWord};
+ghost use Rattle.alu.specs.Alu.{setNZV, setNZVC, sumCodes, differenceCodes, resultCodes, addByte, subByte, andByte, orByte, eorByte, bclrByte, allClear, allSet, tstByte, clrByte, comByte, negByte, incByte, decByte, maxByte, minByte, addWord, subWord, inxWord, dexWord, maxWord, minWord};
 
 pub struct Byte {
     pub value: u8,
@@ -18,7 +18,7 @@ pub struct Word {
     pub flags: Flags,
 }
 
-pub fn nzv(f: Flags, n: bool, z: bool, v: bool) -> Flags
+fn nzv(f: Flags, n: bool, z: bool, v: bool) -> Flags
     ensures { λ r. ⌜ r ≡ setNZV f n z v ⌝ }
 {
     f.with_n(n).with_z(z).with_v(v)
@@ -310,16 +310,6 @@ pub fn dex(f: Flags, x: u16) -> Word
     Word {
         value: r,
         flags: flags,
-    }
-}
-
-// LEAX, LEAY, LEAS; and ABX, ABY, INS, DES, which are such.
-pub fn lea(f: Flags, address: u16) -> Word
-    ensures { λ r. ⌜ r ≡ leaWord f address ⌝ }
-{
-    Word {
-        value: address,
-        flags: f,
     }
 }
 

@@ -1,11 +1,16 @@
 // Reads cases from standard input, a line each, and writes an answer for each: docs/CASES.md has the format.
+
 use machine::Machine;
 use machine::Reply;
+use records::Record;
+use records::Table;
+use run::Answer;
 use state::Flags;
 use state::State;
 use text::Text;
 ghost use Prim.Native.Nat.{_≤_};
 ghost use lib.ListN.{length};
+ghost use Rattle.records.specs.Records.{room};
 
 // What a line was found to hold from a place on: a number, and where it ends. Not ok: no such number, and 0s.
 struct Parsed {
@@ -18,6 +23,13 @@ struct Parsed {
 struct Given {
     ok: bool,
     state: State,
+    next: usize,
+}
+
+// The records that a line lists, and where they end.
+struct Listed {
+    ok: bool,
+    table: Table,
     next: usize,
 }
 
@@ -42,7 +54,8 @@ fn put_state(t: Text, s: State) -> Text {
     let index = put_next(put_next(bytes, s.x as u64), s.y as u64);
     let words = put_next(put_next(index, s.sp as u64), s.pc as u64);
     let codes = put_next(words, f.ccr() as u64);
-    let waits = put_next(codes, if s.waiting { 1 } else { 0 });
+    let standing = s.standing;
+    let waits = put_next(codes, if standing.waiting { 1 } else { 0 });
     put_next(waits, clock)
 }
 
@@ -249,6 +262,16 @@ fn reset(line: &[u8], at: usize, memory: &[u8]) -> Text
     answer(reply, 0, state, weighted(memory))
 }
 
+// The machine's answer, with the memory that it left.
+fn ended(done: Answer, memory: &[u8]) -> Text
+    requires { ⌜ length (now memory) ≤ 65537 ⌝ }
+{
+    let machine = done.machine;
+    let state = machine.state;
+    let reply = done.reply;
+    answer(reply, done.cycles, state, weighted(memory))
+}
+
 fn step(line: &[u8], at: usize, memory: &mut [u8]) -> Text
     requires { ⌜ length (now memory) ≤ 65537 ⌝ }
 {
@@ -258,65 +281,38 @@ fn step(line: &[u8], at: usize, memory: &mut [u8]) -> Text
         return bad();
     }
     let state = given.state;
-    let machine = Machine { state: state };
-    let stepped = machine.step(memory, low_byte(lines));
-    let after = stepped.machine;
-    let left = after.state;
-    let reply = stepped.reply;
-    answer(reply, stepped.cycles, left, weighted(memory))
+    ended(
+        run::step(Machine::of(state), memory, low_byte(lines)),
+        memory,
+    )
 }
 
-// Takes `count` records of a schedule. Not ok where one is missing, or there is no place for it.
-fn records(line: &[u8], from: usize, count: usize, cycles: &mut [u32], lines: &mut [u8]) -> Parsed {
+// Takes `count` records of a schedule, for which the table has room. Not ok where one is missing.
+fn table_of(line: &[u8], from: usize, count: u32) -> Listed
+    ensures { λ r. ⌜ r .table .count ≤ room ⌝ }
+{
+    let mut t = records::empty();
     let mut at = from;
-    let mut i = 0;
-    while i < count {
+    let mut left = count;
+    while left > 0 {
         let cycle = number(line, at, 0xFFFFFFFF);
         let byte = number(line, cycle.next, 0xFF);
         if !(cycle.ok & byte.ok) {
-            return none();
+            return Listed {
+                ok: false,
+                table: t,
+                next: 0,
+            };
         }
-        if i >= cycles.len() {
-            return none();
-        }
-        if i >= lines.len() {
-            return none();
-        }
-        cycles[i] = cycle.value;
-        lines[i] = low_byte(byte);
+        t = records::put(t, Record::of(cycle.value, low_byte(byte)));
         at = byte.next;
-        i += 1;
+        left -= 1;
     }
-    Parsed {
+    Listed {
         ok: true,
-        value: 0,
+        table: t,
         next: at,
     }
-}
-
-// A run with the first n records.
-fn run_first(
-    state: State,
-    memory: &mut [u8],
-    cycles: &[u32],
-    lines: &[u8],
-    n: usize,
-    budget: u32,
-) -> Text
-    requires { ⌜ length (now memory) ≤ 65537 ⌝ }
-{
-    if n > cycles.len() {
-        return bad();
-    }
-    if n > lines.len() {
-        return bad();
-    }
-    let machine = Machine { state: state };
-    let ran = machine.run(memory, &cycles[..n], &lines[..n], budget);
-    let after = ran.machine;
-    let left = after.state;
-    let reply = ran.reply;
-    answer(reply, ran.cycles, left, weighted(memory))
 }
 
 // One record more than the machine accepts can be given, so that it can be seen to refuse them.
@@ -326,15 +322,17 @@ fn run(line: &[u8], at: usize, memory: &mut [u8]) -> Text
     let given = registers(line, at);
     let budget = number(line, given.next, 0xFFFFFFFF);
     let count = number(line, budget.next, 65);
-    let n = count.value as usize;
-    let mut cycles = [0u32; 65];
-    let mut lines = [0u8; 65];
-    let listed = records(line, count.next, n, &mut cycles, &mut lines);
-    if !(given.ok & budget.ok & count.ok & listed.ok & (listed.next == line.len())) {
+    let schedule = table_of(line, count.next, count.value);
+    if !(given.ok & budget.ok & count.ok & schedule.ok & (schedule.next == line.len())) {
         return bad();
     }
     let state = given.state;
-    run_first(state, memory, &cycles, &lines, n, budget.value)
+    let machine = Machine::of(state);
+    let table = schedule.table;
+    ended(
+        records::run_table(machine, memory, table, budget.value),
+        memory,
+    )
 }
 
 fn operate(line: &[u8], at: usize, count: u32, seed: u32, memory: &mut [u8]) -> Text

@@ -8,13 +8,15 @@ use lib.Bits.{bitAnd, bitOr}
 use lib.Dec.{leb, eqb}
 use borrow.Author.Tests.{le-leb, lt-leb}
 use Rattle.word.specs.Word.{pick}
-use Rattle.word.proofs.Laws.{high-word, low-word}
+use Rattle.word.proofs.Laws.{both, high-word, low-word}
 use Rattle.state.specs.declared.Flags.{Flags}
 use Rattle.state.specs.declared.State.{State}
 use Rattle.state.specs.Ccr.{weightOf, ccrOf}
 use Rattle.state.proofs.Laws.{never-sets-x}
+use Rattle.opcodes.specs.Postbyte.{transferReserved}
 use Rattle.codes.specs.Conditions.{AndccKeepsX, OrccKeepsX, RowSeven}
-use Rattle.codes.specs.Registers.{byteFrom, moved, signFill, backFill, tfrOf, exgOf, reservedPair, CellC0, CellC1, CellC2, Cell84, Cell94, CellA4, IgnoresBit3, TransferKeepsX}
+use Rattle.codes.specs.Registers.{byteFrom, moved, signFill, backFill, tfrOf, exgOf}
+use Rattle.codes.specs.Registers.{CellC0, CellC1, CellC2, Cell84, Cell94, CellA4, IgnoresBit3, TransferKeepsX}
 
 -- what the last arm of a `match` whose arms are 0 to k - 1 knows of its number
 abbrev pub Past : ℕ → ℕ → Type 0
@@ -84,11 +86,6 @@ ignores-bit-3 s p l =
     same (yes h) = rw (le-leb 128 p h, le-leb 128 (p + 8) (omega arith))
     same (no h) = let less : p < 128 = omega arith in rw (lt-leb 128 p less, lt-leb 128 (p + 8) (omega arith))
 
--- what holds of both holds of the one that is picked
-pub both : {A : Type 0} (P : A → Type 0) (t : Bool) (a b : A) → P a → P b → P (pick t a b)
-both P true a b p q = p
-both P false a b p q = q
-
 -- X is set in t only where it is set in old
 KeptX : State → State → Type 0
 KeptX old t = t .flags .x ≡ true → old .flags .x ≡ true
@@ -106,7 +103,7 @@ transfer-keeps-x s p =
     let r1 = p / 16 % 8 in
     let r2 = p % 8 in
     let same : KeptX s s = λ e. e in
-    both (KeptX s) (reservedPair r1 r2) s (pick (leb 128 p) (exgOf s r1 r2) (tfrOf s r1 r2)) same
+    both (KeptX s) (transferReserved p) s (pick (leb 128 p) (exgOf s r1 r2) (tfrOf s r1 r2)) same
     (both (KeptX s) (leb 128 p) (exgOf s r1 r2) (tfrOf s r1 r2)
     (moved-keeps-x (moved s s r1 r2 (backFill r2)) s r2 r1 0 (moved-keeps-x s s r1 r2 (backFill r2) same))
     (moved-keeps-x s s r2 r1 (signFill (byteFrom s r1)) same))

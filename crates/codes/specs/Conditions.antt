@@ -22,8 +22,9 @@ orccOf f mask = takeCcr f (bitOr (ccrOf f) mask)
 abbrev pub signWrong : Flags → Bool
 signWrong f = exclusiveOr (f .n) (f .v)
 
--- The branch conditions in the order of their codes, the low digits of the opcodes 20 to 2F: each page's "If ..", that the formula is 1,
--- or `not` of it where the page says that it is 0. (BHS is BCC and BLO is BCS; the long branches have the same.)
+-- The branch conditions in the order of their codes, which are the members of the branches' groups and the low digits of the opcodes
+-- 20 to 2F: each page's "If ..", that the formula is 1, or `not` of it where the page says that it is 0. (BHS is BCC and BLO is BCS;
+-- the long branches have the same.)
 abbrev pub conditions : Flags → List Bool
 conditions f =
     true  -- BRA: always

@@ -6,8 +6,8 @@ use mathlib.Core.Bool.{Bool, not}
 use lib.Dec.{leb, ltb, eqb}
 use Rattle.word.specs.Word.{pick}
 use Rattle.alu.specs.Alu.{oneMore, oneLess}
-use Rattle.codes.specs.declared.Turn8.{Turn8}
-use Rattle.codes.specs.declared.Turn16.{Turn16}
+use Rattle.codes.specs.declared.Count8.{Count8}
+use Rattle.codes.specs.declared.Count16.{Count16}
 
 -- (Counter) - 1, (Counter) as it is, (Counter) + 1
 abbrev pub counted : ℕ → ℕ → ℕ → ℕ
@@ -17,8 +17,8 @@ counted k kind n = pick (ltb kind 2) (oneLess k n) (pick (ltb kind 4) n (oneMore
 abbrev pub taken : ℕ → ℕ → Bool
 taken kind n = pick (eqb (kind % 2) 0) (eqb n 0) (not (eqb n 0))
 
-abbrev pub turnByte : ℕ → ℕ → Turn8
-turnByte kind n = record { counter = counted 7 kind n; taken = taken kind (counted 7 kind n) }
+abbrev pub countByte : ℕ → ℕ → Count8
+countByte kind n = record { counter = counted 7 kind n; taken = taken kind (counted 7 kind n) }
 
-abbrev pub turnWord : ℕ → ℕ → Turn16
-turnWord kind n = record { counter = counted 15 kind n; taken = taken kind (counted 15 kind n) }
+abbrev pub countWord : ℕ → ℕ → Count16
+countWord kind n = record { counter = counted 15 kind n; taken = taken kind (counted 15 kind n) }

@@ -3,7 +3,7 @@
 -- second in bits 2 to 0; bit 7 is set for EXG, and bit 3 is ignored. The codes: 0 A, 1 B, 2 CCR, 3 reserved, 4 D, 5 X, 6 Y, 7 SP.
 use Prim.Native.Nat.{ℕ, _+_, _/_, _%_, _<_}
 use mathlib.Core.Path.{_≡_}
-use mathlib.Core.Bool.{Bool, true, _||_}
+use mathlib.Core.Bool.{true}
 use mathlib.Core.List.{List, [], _∷_}
 use lib.Dec.{leb, eqb}
 use lib.ListN.{getD}
@@ -12,6 +12,7 @@ use Rattle.state.specs.declared.Flags.{Flags}
 use Rattle.state.specs.declared.State.{State}
 use Rattle.state.specs.Ccr.{ccrOf, takeCcr}
 use Rattle.state.specs.State.{withA, withB, withD, withX, withY, withSp, withFlags, dOf}
+use Rattle.opcodes.specs.Postbyte.{transferReserved}
 
 -- the byte that a register sends: itself, or its low byte (a code is three bits)
 abbrev pub byteFrom : State → ℕ → ℕ
@@ -61,14 +62,10 @@ backFill r2 = pick (eqb r2 0) 0 255
 abbrev pub exgOf : State → ℕ → ℕ → State
 exgOf s r1 r2 = moved (moved s s r1 r2 (backFill r2)) s r2 r1 0
 
--- code 3 is reserved
-abbrev pub reservedPair : ℕ → ℕ → Bool
-reservedPair r1 r2 = eqb r1 3 || eqb r2 3
-
 -- the state after the instruction B7 with a postbyte; a reserved one, which its caller refuses, changes nothing
 abbrev pub transferred : State → ℕ → State
 transferred s p =
-    pick (reservedPair (p / 16 % 8) (p % 8)) s
+    pick (transferReserved p) s
     (pick (leb 128 p) (exgOf s (p / 16 % 8) (p % 8)) (tfrOf s (p / 16 % 8) (p % 8)))
 
 -- The laws, each proved under the same name in proofs/Laws.antt. First the cells of the table in which D meets a part of itself or

@@ -1,4 +1,5 @@
 // The condition codes as a whole byte, the branch conditions, the transfers and exchanges of registers, and the loop primitives.
+use opcodes::member;
 use state::Flags;
 use state::State;
 ghost use mathlib.Core.Path.{_≡_};
@@ -8,7 +9,7 @@ ghost use lib.Dec.{eqb};
 ghost use Rattle.word.specs.Word.{pick};
 ghost use Rattle.codes.specs.Conditions.{andccOf, orccOf, signWrong, conditionOf};
 ghost use Rattle.codes.specs.Registers.{byteFrom, wideFrom, wordFrom, putByte, putWord, moved, signFill, backFill, tfrOf, exgOf, transferred};
-ghost use Rattle.codes.specs.Loops.{counted, turnByte, turnWord};
+ghost use Rattle.codes.specs.Loops.{counted, countByte, countWord};
 
 pub fn andcc(f: Flags, mask: u8) -> Flags
     ensures { λ r. ⌜ r ≡ andccOf f mask ⌝ }
@@ -29,28 +30,28 @@ fn sign_wrong(f: Flags) -> bool
     f.n & !f.v | !f.n & f.v
 }
 
-// Whether a branch is taken; `code` is the low digit of its opcode.
-pub fn condition(f: Flags, code: u8) -> bool
+// Whether a branch is taken; `code` is the member of its group, the low digit of its opcode.
+pub fn condition(f: Flags, code: u16) -> bool
     ensures { λ r. ⌜ r ≡ conditionOf f code ⌝ }
 {
     let wrong = sign_wrong(f);
     match code {
-        0 => true,
-        1 => false,
-        2 => !(f.c | f.z),
-        3 => f.c | f.z,
-        4 => !f.c,
-        5 => f.c,
-        6 => !f.z,
-        7 => f.z,
-        8 => !f.v,
-        9 => f.v,
-        10 => !f.n,
-        11 => f.n,
-        12 => !wrong,
-        13 => wrong,
-        14 => !(f.z | wrong),
-        15 => f.z | wrong,
+        member::BRA => true,
+        member::BRN => false,
+        member::BHI => !(f.c | f.z),
+        member::BLS => f.c | f.z,
+        member::BCC => !f.c,
+        member::BCS => f.c,
+        member::BNE => !f.z,
+        member::BEQ => f.z,
+        member::BVC => !f.v,
+        member::BVS => f.v,
+        member::BPL => !f.n,
+        member::BMI => f.n,
+        member::BGE => !wrong,
+        member::BLT => wrong,
+        member::BGT => !(f.z | wrong),
+        member::BLE => f.z | wrong,
         _ => false,
     }
 }
@@ -162,23 +163,23 @@ fn exg(s: State, r1: u8, r2: u8) -> State
 pub fn transfer(s: State, postbyte: u8) -> State
     ensures { λ t. ⌜ t ≡ transferred s postbyte ⌝ }
 {
-    let r1 = postbyte / 16 % 8;
-    let r2 = postbyte % 8;
-    if (r1 == 3) | (r2 == 3) {
+    if opcodes::transfer_reserved(postbyte) {
         return s;
     }
+    let r1 = postbyte / 16 % 8;
+    let r2 = postbyte % 8;
     if postbyte >= 128 {
         return exg(s, r1, r2);
     }
     tfr(s, r1, r2)
 }
 
-pub struct Turn8 {
+pub struct Count8 {
     pub counter: u8,
     pub taken: bool,
 }
 
-pub struct Turn16 {
+pub struct Count16 {
     pub counter: u16,
     pub taken: bool,
 }
@@ -215,24 +216,24 @@ fn branches(kind: u8, zero: bool) -> bool
 }
 
 // One turn of a loop primitive whose counter is A or B.
-pub fn turn_8(kind: u8, n: u8) -> Turn8
-    ensures { λ r. ⌜ r ≡ turnByte kind n ⌝ }
+pub fn count_8(kind: u8, n: u8) -> Count8
+    ensures { λ r. ⌜ r ≡ countByte kind n ⌝ }
 {
     let counter = counted_8(kind, n);
     let taken = branches(kind, counter == 0);
-    Turn8 {
+    Count8 {
         counter: counter,
         taken: taken,
     }
 }
 
 // One turn of a loop primitive whose counter is D, X, Y or SP.
-pub fn turn_16(kind: u8, n: u16) -> Turn16
-    ensures { λ r. ⌜ r ≡ turnWord kind n ⌝ }
+pub fn count_16(kind: u8, n: u16) -> Count16
+    ensures { λ r. ⌜ r ≡ countWord kind n ⌝ }
 {
     let counter = counted_16(kind, n);
     let taken = branches(kind, counter == 0);
-    Turn16 {
+    Count16 {
         counter: counter,
         taken: taken,
     }

@@ -36,7 +36,15 @@ abbrev correctedRight : Bool → Bool → ℕ → Bool
 correctedRight c h a = Bool·beq (corrected c h a) (correctedOf table c h a)
 
 -- a test that passes at both values of C, both of H and every byte
-everywhere : (right : Bool → Bool → ℕ → Bool) → T (everyBelow (right true true) 256) → T (everyBelow (right true false) 256) → T (everyBelow (right false true) 256) → T (everyBelow (right false false) 256) → (c h : Bool) (a : ℕ) → a < 256 → T (right c h a)
+everywhere :
+    (right : Bool → Bool → ℕ → Bool) →
+    T (everyBelow (right true true) 256) →
+    T (everyBelow (right true false) 256) →
+    T (everyBelow (right false true) 256) →
+    T (everyBelow (right false false) 256) →
+    (c h : Bool) (a : ℕ) →
+    a < 256 →
+    T (right c h a)
 everywhere right p q s t true true a l = at-number (right true true) 256 p a l
 everywhere right p q s t true false a l = at-number (right true false) 256 q a l
 everywhere right p q s t false true a l = at-number (right false true) 256 s a l

@@ -1,6 +1,7 @@
 -- What stands at an address: an instruction with its length and cost, an encoding that stops the machine, or a reserved postbyte
 -- (document 01, "Numbered replies", 4 and 5; "Steps and cycles").
 use Prim.Native.Nat.{ℕ}
+use mathlib.Core.Path.{_≡_}
 use mathlib.Core.Bool.{Bool, _&&_, _||_}
 use mathlib.Core.List.{List}
 use lib.Dec.{eqb}
@@ -9,8 +10,9 @@ use Rattle.memory.specs.Memory.{byteAt}
 use Rattle.opcodes.specs.declared.Cell.{Cell}
 use Rattle.opcodes.specs.Mode.{ID-ID}
 use Rattle.opcodes.specs.Map.{cellOf, cellNumber}
-use Rattle.opcodes.specs.Postbyte.{reservedOf, lengthOf, costOf, untakenOf}
+use Rattle.opcodes.specs.Postbyte.{formOf, reservedOf, lengthIn, costOf, untakenOf}
 use Rattle.opcodes.specs.Rules.{stopsOf}
+use Rattle.decode.specs.declared.Opcode.{Opcode}
 use Rattle.decode.specs.declared.Decoded.{Decoded}
 use Rattle.decode.specs.declared.Fetched.{Fetched}
 use Rattle.decode.specs.declared.Fetched.the-variants.{Stop, Reserved, Instruction}
@@ -28,25 +30,50 @@ cellAt m pc =
 abbrev pub afterOpcode : List ℕ → ℕ → ℕ
 afterOpcode m pc = pick (onPageTwo m pc) (plusW pc 2) (plusW pc 1)
 
+-- the opcode at an address: its cell, and the address after it
+abbrev pub opcodeIs : Cell → ℕ → Opcode
+opcodeIs cell at = record { cell = cell; at = at }
+
+abbrev pub opcodeAt : List ℕ → ℕ → Opcode
+opcodeAt m pc = opcodeIs (cellAt m pc) (afterOpcode m pc)
+
 -- Of the instructions with an indexed source and destination either postbyte may be the reserved one. The second stands right
 -- after the first, which has no bytes of its own unless it is reserved.
-abbrev pub reservedAt : List ℕ → Cell → ℕ → Bool
-reservedAt m c at = reservedOf c (byteAt m at) || eqb (c .mode) ID-ID && reservedOf c (byteAt m (plusW at 1))
+abbrev pub secondReserved : List ℕ → Cell → ℕ → Bool
+secondReserved m c at = eqb (c .mode) ID-ID && reservedOf c (byteAt m (plusW at 1))
 
--- an instruction: its cell, the first byte after its opcode, the address after all of it, and its cost
-abbrev pub decodedOf : List ℕ → ℕ → Cell → ℕ → Decoded
-decodedOf m pc c at =
+abbrev pub reservedAt : List ℕ → Cell → ℕ → Bool
+reservedAt m c at = reservedOf c (byteAt m at) || secondReserved m c at
+
+-- an instruction: its cell, the first byte after its opcode, the address after all of it, its cost, the byte that stands there and the
+-- address form that this byte names
+abbrev pub decodedIs : ℕ → Cell → ℕ → ℕ → ℕ → ℕ → Decoded
+decodedIs pc c at postbyte form cost =
     record {
       kind = c .kind;
       mode = c .mode;
       at = at;
-      next = plusW pc (lengthOf c (byteAt m at));
-      cost = costOf c (byteAt m at);
+      next = plusW pc (lengthIn c form);
+      cost = cost;
       untaken = untakenOf c;
+      postbyte = postbyte;
+      form = form;
     }
+
+abbrev pub decodedOf : List ℕ → ℕ → Cell → ℕ → Decoded
+decodedOf m pc c at = decodedIs pc c at (byteAt m at) (formOf (byteAt m at)) (costOf c (byteAt m at))
 
 unfoldable pub fetchedOf : List ℕ → ℕ → Fetched
 fetchedOf m pc =
     pick (stopsOf (cellAt m pc)) Stop
     (pick (reservedAt m (cellAt m pc) (afterOpcode m pc)) Reserved
     (Instruction (decodedOf m pc (cellAt m pc) (afterOpcode m pc))))
+
+-- What a decoded instruction has read is what stands in the memory: its postbyte, and the form that this names. Every instruction that
+-- is fetched is so (`FetchedFaithfully`, proved under the same name in proofs/Laws.antt).
+pub record Faithful (m : List ℕ) (d : Decoded) : Type 0 where
+  pub postbyte : d .postbyte ≡ byteAt m (d .at)
+  pub form : d .form ≡ formOf (d .postbyte)
+
+abbrev pub FetchedFaithfully : Type 0
+FetchedFaithfully = (m : List ℕ) (pc : ℕ) (d : Decoded) → fetchedOf m pc ≡ Instruction d → Faithful m d

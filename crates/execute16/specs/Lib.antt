@@ -1,3 +1,4 @@
 pub mod Words
-pub mod Inherent
+pub mod Registers
 pub mod Products
+pub mod Lookups

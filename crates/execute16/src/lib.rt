@@ -1,5 +1,5 @@
-// The instructions on words, the stores, the larger or smaller of two, what needs no operand in memory, multiplication,
-// division and table lookup.
+// The instructions on words, the stores, the larger or smaller of two, what works on registers and condition codes alone,
+// multiplication, division and table lookup. Where an operand lies was found before; what two sizes may have is read here.
 use alu::Byte;
 use alu::Word;
 use decode::Decoded;
@@ -7,22 +7,25 @@ use effect::Effect;
 use execute8::a_result;
 use execute8::b_result;
 use memory::Store;
+use opcodes::kind;
 use product::Division;
 use product::Long;
 use state::Flags;
 use state::State;
 ghost use mathlib.Core.Path.{_≡_};
 ghost use lib.ListN.{length};
-ghost use Prim.Native.Nat.{_+_, _*_};
-ghost use Rattle.word.specs.Word.{plusW};
+ghost use Rattle.word.specs.Word.{plusW, longOf};
 ghost use Rattle.memory.specs.Memory.{wordAt};
 ghost use Rattle.state.specs.State.{withFlags};
-ghost use Rattle.execute16.specs.Words.{loaded as loadedOf, dResult, xResult, yResult, spResult, compared as comparedOf, worded as wordedOf, withWordEffect, byteStored, wordStored, stored as storedOf, storeEffect, byteChosen, wordChosen, chosen as chosenOf, chooseEffect};
-ghost use Rattle.execute16.specs.Inherent.{firstInherent, secondInherent, inherentEffect};
-ghost use Rattle.execute16.specs.Products.{ydResult, xdResult, ydDivided, multiplied as multipliedOf, accumulateEffect, lookedUp, productEffect};
+ghost use Rattle.effect.specs.Effect.{quiet};
+ghost use Rattle.execute16.specs.Words.{loadedWord, dResult, xResult, yResult, spResult, compared as comparedOf};
+ghost use Rattle.execute16.specs.Words.{worded as wordedOf, wordWith, byteStored, wordStored, stored, byteChosen, wordChosen, chosen};
+ghost use Rattle.execute16.specs.Registers.{firstRegisters, secondRegisters, registered};
+ghost use Rattle.execute16.specs.Products.{ydResult, xdResult, ydDivided, multiplied as multipliedOf, accumulateEffect, productEffect};
+ghost use Rattle.execute16.specs.Lookups.{lookedUp};
 
-fn loaded(f: Flags, m: u16) -> Word
-    ensures { λ r. ⌜ r ≡ loadedOf f m ⌝ }
+fn loaded_word(f: Flags, m: u16) -> Word
+    ensures { λ r. ⌜ r ≡ loadedWord f m ⌝ }
 {
     let flags = alu::result_16(f, m);
     Word {
@@ -66,32 +69,29 @@ fn compared(s: State, r: Word) -> State
     s.with_flags(flags)
 }
 
-fn worded(member: u8, s: State, m: u16) -> State
-    ensures { λ t. ⌜ t ≡ wordedOf member s m ⌝ }
+fn worded(kind: u16, s: State, m: u16) -> State
+    ensures { λ t. ⌜ t ≡ wordedOf kind s m ⌝ }
 {
     let f = s.flags;
-    match member {
-        0x0 => d_result(s, alu::sub_16(f, s.d(), m)),
-        0x1 => d_result(s, alu::add_16(f, s.d(), m)),
-        0x2 => compared(s, alu::sub_16(f, s.d(), m)),
-        0x3 => compared(s, alu::sub_16(f, s.y, m)),
-        0x4 => compared(s, alu::sub_16(f, s.x, m)),
-        0x5 => compared(s, alu::sub_16(f, s.sp, m)),
-        0x6 => d_result(s, loaded(f, m)),
-        0x7 => y_result(s, loaded(f, m)),
-        0x8 => x_result(s, loaded(f, m)),
-        _ => sp_result(s, loaded(f, m)),
+    match kind {
+        kind::SUBD => d_result(s, alu::sub_16(f, s.d(), m)),
+        kind::ADDD => d_result(s, alu::add_16(f, s.d(), m)),
+        kind::CPD => compared(s, alu::sub_16(f, s.d(), m)),
+        kind::CPY => compared(s, alu::sub_16(f, s.y, m)),
+        kind::CPX => compared(s, alu::sub_16(f, s.x, m)),
+        kind::CPS => compared(s, alu::sub_16(f, s.sp, m)),
+        kind::LDD => d_result(s, loaded_word(f, m)),
+        kind::LDY => y_result(s, loaded_word(f, m)),
+        kind::LDX => x_result(s, loaded_word(f, m)),
+        _ => sp_result(s, loaded_word(f, m)),
     }
 }
 
-pub fn with_word(s: State, m: &[u8], d: Decoded) -> Effect
-    requires { ⌜ length (now m) ≡ 65536 ⌝ }
-    ensures { λ r. ⌜ r ≡ withWordEffect s (now (m .entry)) d ⌝ }
+// D, X, Y or SP with the word `v`.
+pub fn with_word(s: State, kind: u16, v: u16, cost: u8) -> Effect
+    ensures { λ r. ⌜ r ≡ wordWith s kind v cost ⌝ }
 {
-    let place = operand::operand_place(s, m, d.mode, d.at);
-    let t = place.state;
-    let value = memory::read_word(m, place.address);
-    effect::quiet(worded(d.kind % 16, t, value), d.cost)
+    effect::quiet(worded(kind, s, v), cost)
 }
 
 fn byte_stored(s: State, cost: u8, a: u16, v: u8) -> Effect
@@ -108,26 +108,18 @@ fn word_stored(s: State, cost: u8, a: u16, v: u16) -> Effect
     effect::writes(s.with_flags(alu::result_16(f, v)), cost, Store::word(a, v))
 }
 
-fn stored(member: u8, s: State, cost: u8, a: u16) -> Effect
-    ensures { λ r. ⌜ r ≡ storedOf member s cost a ⌝ }
+// A register is stored at the address `a`.
+pub fn store(s: State, kind: u16, cost: u8, a: u16) -> Effect
+    ensures { λ r. ⌜ r ≡ stored kind s cost a ⌝ }
 {
-    match member {
-        0xA => byte_stored(s, cost, a, s.a),
-        0xB => byte_stored(s, cost, a, s.b),
-        0xC => word_stored(s, cost, a, s.d()),
-        0xD => word_stored(s, cost, a, s.y),
-        0xE => word_stored(s, cost, a, s.x),
+    match kind {
+        kind::STAA => byte_stored(s, cost, a, s.a),
+        kind::STAB => byte_stored(s, cost, a, s.b),
+        kind::STD => word_stored(s, cost, a, s.d()),
+        kind::STY => word_stored(s, cost, a, s.y),
+        kind::STX => word_stored(s, cost, a, s.x),
         _ => word_stored(s, cost, a, s.sp),
     }
-}
-
-pub fn store(s: State, m: &[u8], d: Decoded) -> Effect
-    requires { ⌜ length (now m) ≡ 65536 ⌝ }
-    ensures { λ r. ⌜ r ≡ storeEffect s (now (m .entry)) d ⌝ }
-{
-    let place = operand::operand_place(s, m, d.mode, d.at);
-    let t = place.state;
-    stored(d.kind % 16, t, d.cost, place.address)
 }
 
 fn byte_chosen(s: State, cost: u8, a: u16, r: Byte) -> Effect
@@ -144,56 +136,48 @@ fn word_chosen(s: State, cost: u8, a: u16, r: Word) -> Effect
     effect::writes(s.with_flags(flags), cost, Store::word(a, r.value))
 }
 
-fn chosen(member: u8, s: State, m: &[u8], cost: u8, a: u16) -> Effect
+// The larger or smaller of a register and the operand at the address `a`.
+pub fn choose(s: State, m: &[u8], kind: u16, cost: u8, a: u16) -> Effect
     requires { ⌜ length (now m) ≡ 65536 ⌝ }
-    ensures { λ r. ⌜ r ≡ chosenOf member s (now (m .entry)) cost a ⌝ }
+    ensures { λ r. ⌜ r ≡ chosen kind s (now (m .entry)) cost a ⌝ }
 {
     let f = s.flags;
-    match member {
-        0x0 => effect::quiet(
+    match kind {
+        kind::MAXA => effect::quiet(
             a_result(s, alu::max_8(f, s.a, memory::read_byte(m, a))),
             cost,
         ),
-        0x1 => effect::quiet(
+        kind::MINA => effect::quiet(
             a_result(s, alu::min_8(f, s.a, memory::read_byte(m, a))),
             cost,
         ),
-        0x2 => effect::quiet(
+        kind::EMAXD => effect::quiet(
             d_result(s, alu::max_16(f, s.d(), memory::read_word(m, a))),
             cost,
         ),
-        0x3 => effect::quiet(
+        kind::EMIND => effect::quiet(
             d_result(s, alu::min_16(f, s.d(), memory::read_word(m, a))),
             cost,
         ),
-        0x4 => byte_chosen(s, cost, a, alu::max_8(f, s.a, memory::read_byte(m, a))),
-        0x5 => byte_chosen(s, cost, a, alu::min_8(f, s.a, memory::read_byte(m, a))),
-        0x6 => word_chosen(s, cost, a, alu::max_16(f, s.d(), memory::read_word(m, a))),
+        kind::MAXM => byte_chosen(s, cost, a, alu::max_8(f, s.a, memory::read_byte(m, a))),
+        kind::MINM => byte_chosen(s, cost, a, alu::min_8(f, s.a, memory::read_byte(m, a))),
+        kind::EMAXM => word_chosen(s, cost, a, alu::max_16(f, s.d(), memory::read_word(m, a))),
         _ => word_chosen(s, cost, a, alu::min_16(f, s.d(), memory::read_word(m, a))),
     }
 }
 
-pub fn choose(s: State, m: &[u8], d: Decoded) -> Effect
-    requires { ⌜ length (now m) ≡ 65536 ⌝ }
-    ensures { λ r. ⌜ r ≡ chooseEffect s (now (m .entry)) d ⌝ }
-{
-    let place = operand::operand_place(s, m, d.mode, d.at);
-    let t = place.state;
-    chosen(d.kind % 16, t, m, d.cost, place.address)
-}
-
-fn first_inherent(member: u8, s: State) -> State
-    ensures { λ t. ⌜ t ≡ firstInherent member s ⌝ }
+fn first_registers(kind: u16, s: State) -> State
+    ensures { λ t. ⌜ t ≡ firstRegisters kind s ⌝ }
 {
     let f = s.flags;
-    match member {
-        0x0 => d_result(s, shift::lsrd(f, s.d())),
-        0x1 => d_result(s, shift::asld(f, s.d())),
-        0x2 => x_result(s, alu::inx(f, s.x)),
-        0x3 => y_result(s, alu::inx(f, s.y)),
-        0x4 => x_result(s, alu::dex(f, s.x)),
-        0x5 => y_result(s, alu::dex(f, s.y)),
-        0x6 => a_result(s, alu::add_8(f, s.a, s.b, false)),
+    match kind {
+        kind::LSRD => d_result(s, shift::lsrd(f, s.d())),
+        kind::ASLD => d_result(s, shift::asld(f, s.d())),
+        kind::INX => x_result(s, alu::inx(f, s.x)),
+        kind::INY => y_result(s, alu::inx(f, s.y)),
+        kind::DEX => x_result(s, alu::dex(f, s.x)),
+        kind::DEY => y_result(s, alu::dex(f, s.y)),
+        kind::ABA => a_result(s, alu::add_8(f, s.a, s.b, false)),
         _ => a_result(s, alu::sub_8(f, s.a, s.b, false)),
     }
 }
@@ -205,43 +189,39 @@ fn byte_compared(s: State, r: Byte) -> State
     s.with_flags(flags)
 }
 
-fn second_inherent(member: u8, s: State, n: u8) -> State
-    ensures { λ t. ⌜ t ≡ secondInherent member s n ⌝ }
+fn second_registers(kind: u16, s: State, n: u8) -> State
+    ensures { λ t. ⌜ t ≡ secondRegisters kind s n ⌝ }
 {
     let f = s.flags;
-    match member {
-        0x8 => byte_compared(s, alu::sub_8(f, s.a, s.b, false)),
-        0x9 => a_result(s, decimal::daa(f, s.a)),
-        0xA => b_result(s, execute8::loaded(f, s.a)),
-        0xB => a_result(s, execute8::loaded(f, s.b)),
-        0xC => s.with_flags(codes::andcc(f, n)),
-        0xD => s.with_flags(codes::orcc(f, n)),
-        0xE => codes::transfer(s, n),
+    match kind {
+        kind::CBA => byte_compared(s, alu::sub_8(f, s.a, s.b, false)),
+        kind::DAA => a_result(s, decimal::daa(f, s.a)),
+        kind::TAB => b_result(s, execute8::loaded_byte(f, s.a)),
+        kind::TBA => a_result(s, execute8::loaded_byte(f, s.b)),
+        kind::ANDCC => s.with_flags(codes::andcc(f, n)),
+        kind::ORCC => s.with_flags(codes::orcc(f, n)),
+        kind::TFR_EXG => codes::transfer(s, n),
         _ => s,
     }
 }
 
-// What needs no operand in memory. `d.at` is where a mask or a postbyte stands.
-pub fn inherent(s: State, m: &[u8], d: Decoded) -> Effect
-    requires { ⌜ length (now m) ≡ 65536 ⌝ }
-    ensures { λ r. ⌜ r ≡ inherentEffect s (now (m .entry)) d ⌝ }
+// `n` is the byte after the opcode, a mask or a postbyte, which most of these do not look at.
+pub fn registers(s: State, kind: u16, n: u8, cost: u8) -> Effect
+    ensures { λ r. ⌜ r ≡ registered s kind n cost ⌝ }
 {
-    if d.kind % 16 < 8 {
-        return effect::quiet(first_inherent(d.kind % 16, s), d.cost);
+    if kind < kind::CBA {
+        return effect::quiet(first_registers(kind, s), cost);
     }
-    effect::quiet(
-        second_inherent(d.kind % 16, s, memory::read_byte(m, d.at)),
-        d.cost,
-    )
+    effect::quiet(second_registers(kind, s, n), cost)
 }
 
 fn yd_result(s: State, r: Long) -> State
     ensures { λ t. ⌜ t ≡ ydResult s r ⌝ }
 {
     let flags = r.flags;
-    let high = (r.value / 65536) as u16;
-    let low = (r.value % 65536) as u16;
-    s.with_y(high).with_d(low).with_flags(flags)
+    s.with_y(word::high_word(r.value))
+        .with_d(word::low_word(r.value))
+        .with_flags(flags)
 }
 
 fn xd_result(s: State, r: Division) -> State
@@ -258,27 +238,29 @@ fn yd_divided(s: State, r: Division) -> State
     s.with_y(r.quotient).with_d(r.remainder).with_flags(flags)
 }
 
-fn multiplied(member: u8, s: State) -> State
-    ensures { λ t. ⌜ t ≡ multipliedOf member s ⌝ }
+fn multiplied(kind: u16, s: State) -> State
+    ensures { λ t. ⌜ t ≡ multipliedOf kind s ⌝ }
 {
     let f = s.flags;
-    match member {
-        0x0 => d_result(s, product::mul(f, s.a, s.b)),
-        0x1 => yd_result(s, product::emul(f, s.d(), s.y)),
-        0x2 => yd_result(s, product::emuls(f, s.d(), s.y)),
-        0x4 => yd_divided(s, product::ediv(f, s.y, s.d(), s.x)),
-        0x5 => yd_divided(s, product::edivs(f, s.y, s.d(), s.x)),
-        0x6 => xd_result(s, product::idiv(f, s.d(), s.x)),
-        0x7 => xd_result(s, product::idivs(f, s.d(), s.x)),
+    match kind {
+        kind::MUL => d_result(s, product::mul(f, s.a, s.b)),
+        kind::EMUL => yd_result(s, product::emul(f, s.d(), s.y)),
+        kind::EMULS => yd_result(s, product::emuls(f, s.d(), s.y)),
+        kind::EDIV => yd_divided(s, product::ediv(f, s.y, s.d(), s.x)),
+        kind::EDIVS => yd_divided(s, product::edivs(f, s.y, s.d(), s.x)),
+        kind::IDIV => xd_result(s, product::idiv(f, s.d(), s.x)),
+        kind::IDIVS => xd_result(s, product::idivs(f, s.d(), s.x)),
         _ => xd_result(s, product::fdiv(f, s.d(), s.x)),
     }
 }
 
 fn read_long(m: &[u8], a: u16) -> u32
     requires { ⌜ length (now m) ≡ 65536 ⌝ }
-    ensures { λ r. ⌜ r ≡ wordAt (now (m .entry)) a * 65536 + wordAt (now (m .entry)) (plusW a 2) ⌝ }
+    ensures { λ r. ⌜ r ≡ longOf (wordAt (now (m .entry)) a) (wordAt (now (m .entry)) (plusW a 2)) ⌝ }
 {
-    memory::read_word(m, a) as u32 * 65536 + memory::read_word(m, word::plus(a, 2)) as u32
+    let high = memory::read_word(m, a);
+    let low = memory::read_word(m, word::plus(a, 2));
+    word::long(high, low)
 }
 
 fn accumulate(s: State, m: &[u8], cost: u8, a: u16) -> Effect
@@ -290,17 +272,28 @@ fn accumulate(s: State, m: &[u8], cost: u8, a: u16) -> Effect
     let y = memory::read_word(m, s.y);
     let r = product::emacs(f, x, y, read_long(m, a));
     let flags = r.flags;
-    let high = (r.value / 65536) as u16;
-    let low = (r.value % 65536) as u16;
+    let high = word::high_word(r.value);
+    let low = word::low_word(r.value);
     effect::writes(s.with_flags(flags), cost, Store::words(a, high, low))
 }
 
-fn looked_up(member: u8, s: State, m: &[u8], a: u16) -> State
+// Of the products only EMACS looks at memory, at an address that stands after its opcode.
+pub fn products(s: State, m: &[u8], d: Decoded) -> Effect
     requires { ⌜ length (now m) ≡ 65536 ⌝ }
-    ensures { λ t. ⌜ t ≡ lookedUp member s (now (m .entry)) a ⌝ }
+    ensures { λ r. ⌜ r ≡ productEffect s (now (m .entry)) d ⌝ }
+{
+    if d.kind == kind::EMACS {
+        return accumulate(s, m, d.cost, memory::read_word(m, d.at));
+    }
+    effect::quiet(multiplied(d.kind, s), d.cost)
+}
+
+fn looked_up(kind: u16, s: State, m: &[u8], a: u16) -> State
+    requires { ⌜ length (now m) ≡ 65536 ⌝ }
+    ensures { λ t. ⌜ t ≡ lookedUp kind s (now (m .entry)) a ⌝ }
 {
     let f = s.flags;
-    if member == 0x9 {
+    if kind == kind::TBL {
         let y1 = memory::read_byte(m, a);
         let y2 = memory::read_byte(m, word::plus(a, 1));
         return a_result(s, decimal::tbl(f, s.b, y1, y2));
@@ -310,17 +303,10 @@ fn looked_up(member: u8, s: State, m: &[u8], a: u16) -> State
     d_result(s, decimal::etbl(f, s.b, y1, y2))
 }
 
-pub fn multiply(s: State, m: &[u8], d: Decoded) -> Effect
+// The two entries of the table are at the address `a`.
+pub fn look_up(s: State, m: &[u8], kind: u16, cost: u8, a: u16) -> Effect
     requires { ⌜ length (now m) ≡ 65536 ⌝ }
-    ensures { λ r. ⌜ r ≡ productEffect s (now (m .entry)) d ⌝ }
+    ensures { λ r. ⌜ r ≡ quiet (lookedUp kind s (now (m .entry)) a) cost ⌝ }
 {
-    if d.kind % 16 == 0x3 {
-        return accumulate(s, m, d.cost, memory::read_word(m, d.at));
-    }
-    if d.kind % 16 >= 0x9 {
-        let place = operand::operand_place(s, m, d.mode, d.at);
-        let t = place.state;
-        return effect::quiet(looked_up(d.kind % 16, t, m, place.address), d.cost);
-    }
-    effect::quiet(multiplied(d.kind % 16, s), d.cost)
+    effect::quiet(looked_up(kind, s, m, a), cost)
 }

@@ -1,13 +1,14 @@
-// The instructions on bytes: A or B with an operand, and a byte changed in memory or in A or B.
+// The instructions on bytes: A or B with an operand, and a byte changed in memory or in A or B. Everything here is numbers: where an
+// operand lies, and what stands there, was found before.
 use alu::Byte;
-use decode::Decoded;
 use effect::Effect;
 use memory::Store;
+use opcodes::kind;
+use opcodes::member;
 use state::Flags;
 use state::State;
 ghost use mathlib.Core.Path.{_≡_};
-ghost use lib.ListN.{length};
-ghost use Rattle.execute8.specs.Bytes.{keeping as keepingOf, loaded as loadedOf, accumulated as accumulatedOf, changed as changedOf, aResult, bResult, withAEffect, withBEffect, inMemoryEffect, inAEffect, inBEffect};
+ghost use Rattle.execute8.specs.Bytes.{keeping as keepingOf, loadedByte, accumulated as accumulatedOf, changed as changedOf, aResult, bResult, aWith, bWith, memoryChanged, aChanged, bChanged};
 
 // The codes of a comparison, with the register as it was.
 fn keeping(x: u8, r: Byte) -> Byte
@@ -20,8 +21,8 @@ fn keeping(x: u8, r: Byte) -> Byte
     }
 }
 
-pub fn loaded(f: Flags, m: u8) -> Byte
-    ensures { λ r. ⌜ r ≡ loadedOf f m ⌝ }
+pub fn loaded_byte(f: Flags, m: u8) -> Byte
+    ensures { λ r. ⌜ r ≡ loadedByte f m ⌝ }
 {
     let flags = alu::result_8(f, m);
     Byte {
@@ -30,37 +31,37 @@ pub fn loaded(f: Flags, m: u8) -> Byte
     }
 }
 
-fn accumulated(member: u8, f: Flags, x: u8, m: u8) -> Byte
+fn accumulated(member: u16, f: Flags, x: u8, m: u8) -> Byte
     ensures { λ r. ⌜ r ≡ accumulatedOf member f x m ⌝ }
 {
     match member {
-        0x0 => alu::sub_8(f, x, m, false),
-        0x1 => keeping(x, alu::sub_8(f, x, m, false)),
-        0x2 => alu::sub_8(f, x, m, f.c),
-        0x4 => alu::and_8(f, x, m),
-        0x5 => keeping(x, alu::and_8(f, x, m)),
-        0x6 => loaded(f, m),
-        0x8 => alu::eor_8(f, x, m),
-        0x9 => alu::add_8(f, x, m, f.c),
-        0xA => alu::or_8(f, x, m),
+        member::SUB => alu::sub_8(f, x, m, false),
+        member::CMP => keeping(x, alu::sub_8(f, x, m, false)),
+        member::SBC => alu::sub_8(f, x, m, f.c),
+        member::AND => alu::and_8(f, x, m),
+        member::BIT => keeping(x, alu::and_8(f, x, m)),
+        member::LD => loaded_byte(f, m),
+        member::EOR => alu::eor_8(f, x, m),
+        member::ADC => alu::add_8(f, x, m, f.c),
+        member::OR => alu::or_8(f, x, m),
         _ => alu::add_8(f, x, m, false),
     }
 }
 
-fn changed(member: u8, f: Flags, m: u8) -> Byte
+fn changed(member: u16, f: Flags, m: u8) -> Byte
     ensures { λ r. ⌜ r ≡ changedOf member f m ⌝ }
 {
     match member {
-        0x0 => alu::neg(f, m),
-        0x1 => alu::com(f, m),
-        0x2 => alu::inc(f, m),
-        0x3 => alu::dec(f, m),
-        0x4 => shift::lsr(f, m),
-        0x5 => shift::rol(f, m),
-        0x6 => shift::ror(f, m),
-        0x7 => shift::asr(f, m),
-        0x8 => shift::asl(f, m),
-        0x9 => alu::clr(f),
+        member::NEG => alu::neg(f, m),
+        member::COM => alu::com(f, m),
+        member::INC => alu::inc(f, m),
+        member::DEC => alu::dec(f, m),
+        member::LSR => shift::lsr(f, m),
+        member::ROL => shift::rol(f, m),
+        member::ROR => shift::ror(f, m),
+        member::ASR => shift::asr(f, m),
+        member::ASL => shift::asl(f, m),
+        member::CLR => alu::clr(f),
         _ => alu::tst(f, m),
     }
 }
@@ -79,57 +80,48 @@ pub fn b_result(s: State, r: Byte) -> State
     s.with_b(r.value).with_flags(flags)
 }
 
-pub fn with_a(s: State, m: &[u8], d: Decoded) -> Effect
-    requires { ⌜ length (now m) ≡ 65536 ⌝ }
-    ensures { λ r. ⌜ r ≡ withAEffect s (now (m .entry)) d ⌝ }
+pub fn with_a(s: State, kind: u16, v: u8, cost: u8) -> Effect
+    ensures { λ r. ⌜ r ≡ aWith s kind v cost ⌝ }
 {
-    let place = operand::operand_place(s, m, d.mode, d.at);
-    let t = place.state;
-    let f = t.flags;
-    let value = memory::read_byte(m, place.address);
-    effect::quiet(a_result(t, accumulated(d.kind % 16, f, t.a, value)), d.cost)
+    let f = s.flags;
+    let member = opcodes::member_of(kind);
+    effect::quiet(a_result(s, accumulated(member, f, s.a, v)), cost)
 }
 
-pub fn with_b(s: State, m: &[u8], d: Decoded) -> Effect
-    requires { ⌜ length (now m) ≡ 65536 ⌝ }
-    ensures { λ r. ⌜ r ≡ withBEffect s (now (m .entry)) d ⌝ }
+pub fn with_b(s: State, kind: u16, v: u8, cost: u8) -> Effect
+    ensures { λ r. ⌜ r ≡ bWith s kind v cost ⌝ }
 {
-    let place = operand::operand_place(s, m, d.mode, d.at);
-    let t = place.state;
-    let f = t.flags;
-    let value = memory::read_byte(m, place.address);
-    effect::quiet(b_result(t, accumulated(d.kind % 16, f, t.b, value)), d.cost)
+    let f = s.flags;
+    let member = opcodes::member_of(kind);
+    effect::quiet(b_result(s, accumulated(member, f, s.b, v)), cost)
 }
 
-pub fn in_memory(s: State, m: &[u8], d: Decoded) -> Effect
-    requires { ⌜ length (now m) ≡ 65536 ⌝ }
-    ensures { λ r. ⌜ r ≡ inMemoryEffect s (now (m .entry)) d ⌝ }
+// `v` is the byte at the address `a`.
+pub fn in_memory(s: State, kind: u16, v: u8, a: u16, cost: u8) -> Effect
+    ensures { λ r. ⌜ r ≡ memoryChanged s kind v a cost ⌝ }
 {
-    let place = operand::operand_place(s, m, d.mode, d.at);
-    let t = place.state;
-    let f = t.flags;
-    let r = changed(d.kind % 16, f, memory::read_byte(m, place.address));
-    let after = r.flags;
-    if d.kind % 16 == 0xA {
-        return effect::quiet(t.with_flags(after), d.cost);
+    let f = s.flags;
+    let r = changed(opcodes::member_of(kind), f, v);
+    let flags = r.flags;
+    let after = s.with_flags(flags);
+    if kind == kind::TST {
+        return effect::quiet(after, cost);
     }
-    effect::writes(
-        t.with_flags(after),
-        d.cost,
-        Store::byte(place.address, r.value),
-    )
+    effect::writes(after, cost, Store::byte(a, r.value))
 }
 
-pub fn in_a(s: State, d: Decoded) -> Effect
-    ensures { λ r. ⌜ r ≡ inAEffect s d ⌝ }
+pub fn in_a(s: State, kind: u16, cost: u8) -> Effect
+    ensures { λ r. ⌜ r ≡ aChanged s kind cost ⌝ }
 {
     let f = s.flags;
-    effect::quiet(a_result(s, changed(d.kind % 16, f, s.a)), d.cost)
+    let r = changed(opcodes::member_of(kind), f, s.a);
+    effect::quiet(a_result(s, r), cost)
 }
 
-pub fn in_b(s: State, d: Decoded) -> Effect
-    ensures { λ r. ⌜ r ≡ inBEffect s d ⌝ }
+pub fn in_b(s: State, kind: u16, cost: u8) -> Effect
+    ensures { λ r. ⌜ r ≡ bChanged s kind cost ⌝ }
 {
     let f = s.flags;
-    effect::quiet(b_result(s, changed(d.kind % 16, f, s.b)), d.cost)
+    let r = changed(opcodes::member_of(kind), f, s.b);
+    effect::quiet(b_result(s, r), cost)
 }

@@ -1,19 +1,18 @@
--- Branches: short and long, on bits of memory, and the loop primitives. PC of the state is the address after the whole instruction,
+-- Branches: short and long, and the loop primitives. PC of the state is the address after the whole instruction,
 -- from which every offset counts (002, section 3.7, p. 3-4). An offset is signed.
-use Prim.Native.Nat.{ℕ, _+_, _/_, _%_}
+use Prim.Native.Nat.{ℕ, _/_, _%_}
 use mathlib.Core.Bool.{Bool}
 use mathlib.Core.List.{List}
 use lib.Dec.{eqb}
-use Rattle.word.specs.Word.{pick, plusW, minusW, extend8, bitOf}
+use Rattle.word.specs.Word.{pick, plusW, extend8, extend9, bitOf}
 use Rattle.memory.specs.Memory.{byteAt, wordAt}
 use Rattle.state.specs.declared.State.{State}
 use Rattle.state.specs.State.{withA, withB, withD, withX, withY, withSp, withPc, dOf}
-use Rattle.alu.specs.Alu.{allClear, allSet}
+use Rattle.opcodes.specs.Kind.{memberOf}
 use Rattle.codes.specs.Conditions.{conditionOf}
-use Rattle.codes.specs.declared.Turn8.{Turn8}
-use Rattle.codes.specs.declared.Turn16.{Turn16}
-use Rattle.codes.specs.Loops.{turnByte, turnWord}
-use Rattle.operand.specs.Operand.{operandPlace}
+use Rattle.codes.specs.declared.Count8.{Count8}
+use Rattle.codes.specs.declared.Count16.{Count16}
+use Rattle.codes.specs.Loops.{countByte, countWord}
 use Rattle.decode.specs.declared.Decoded.{Decoded}
 use Rattle.effect.specs.declared.Effect.{Effect}
 use Rattle.effect.specs.Effect.{quiet}
@@ -22,44 +21,40 @@ use Rattle.effect.specs.Effect.{quiet}
 abbrev pub branched : State → Bool → ℕ → ℕ → ℕ → Effect
 branched s taken offset cost untaken = pick taken (quiet (withPc s (plusW (s .pc) offset)) cost) (quiet s untaken)
 
--- group 1, BRA to BLE: an offset of 8 bits
+-- BRA to BLE: n is an offset of 8 bits
+abbrev pub shortBranched : State → ℕ → ℕ → ℕ → ℕ → Effect
+shortBranched s kind n cost untaken = branched s (conditionOf (s .flags) (memberOf kind)) (extend8 n) cost untaken
+
 unfoldable pub shortEffect : State → List ℕ → Decoded → Effect
-shortEffect s m d = branched s (conditionOf (s .flags) (d .kind % 16)) (extend8 (byteAt m (d .at))) (d .cost) (d .untaken)
+shortEffect s m d = shortBranched s (d .kind) (byteAt m (d .at)) (d .cost) (d .untaken)
 
--- group 2, LBRA to LBLE: an offset of 16 bits
+-- LBRA to LBLE: an offset of 16 bits
+abbrev pub longBranched : State → ℕ → ℕ → ℕ → ℕ → Effect
+longBranched s kind offset cost untaken = branched s (conditionOf (s .flags) (memberOf kind)) offset cost untaken
+
 unfoldable pub longEffect : State → List ℕ → Decoded → Effect
-longEffect s m d = branched s (conditionOf (s .flags) (d .kind % 16)) (wordAt m (d .at)) (d .cost) (d .untaken)
-
--- BRSET, and else BRCLR: the last two bytes are the mask and an offset of 8 bits; the cost is the same either way
-unfoldable pub bitBranchEffect : State → List ℕ → Decoded → Bool → Effect
-bitBranchEffect s m d set =
-    let place = operandPlace s m (d .mode) (d .at) in
-    let t = place .state in
-    let v = byteAt m (place .address) in
-    let mask = byteAt m (minusW (s .pc) 2) in
-    branched t (pick set (allSet v mask) (allClear v mask)) (extend8 (byteAt m (minusW (s .pc) 1))) (d .cost) (d .cost)
+longEffect s m d = longBranched s (d .kind) (wordAt m (d .at)) (d .cost) (d .untaken)
 
 -- The loop primitives: bits 7 to 5 of the postbyte are the kind, bit 4 the sign of the 9-bit offset, bits 2 to 0 the counter:
 -- A, B, D, X, Y, SP for 0, 1, 4, 5, 6, 7.
-abbrev pub loopOffset : ℕ → ℕ → ℕ
-loopOffset p b = pick (bitOf 4 p) (b + 65280) b
-
-abbrev pub byteLooped : State → ℕ → ℕ → Turn8 → Effect
+abbrev pub byteLooped : State → ℕ → ℕ → Count8 → Effect
 byteLooped s offset cost t = branched s (t .taken) offset cost cost
 
-abbrev pub wordLooped : State → ℕ → ℕ → Turn16 → Effect
+abbrev pub wordLooped : State → ℕ → ℕ → Count16 → Effect
 wordLooped s offset cost t = branched s (t .taken) offset cost cost
 
 unfoldable pub looped : ℕ → State → ℕ → ℕ → ℕ → Effect
 looped counter s kind offset cost =
-    pick (eqb counter 0) (byteLooped (withA s (turnByte kind (s .a) .counter)) offset cost (turnByte kind (s .a)))
-    (pick (eqb counter 1) (byteLooped (withB s (turnByte kind (s .b) .counter)) offset cost (turnByte kind (s .b)))
-    (pick (eqb counter 4) (wordLooped (withD s (turnWord kind (dOf s) .counter)) offset cost (turnWord kind (dOf s)))
-    (pick (eqb counter 5) (wordLooped (withX s (turnWord kind (s .x) .counter)) offset cost (turnWord kind (s .x)))
-    (pick (eqb counter 6) (wordLooped (withY s (turnWord kind (s .y) .counter)) offset cost (turnWord kind (s .y)))
-    (wordLooped (withSp s (turnWord kind (s .sp) .counter)) offset cost (turnWord kind (s .sp)))))))
+    pick (eqb counter 0) (byteLooped (withA s (countByte kind (s .a) .counter)) offset cost (countByte kind (s .a)))
+    (pick (eqb counter 1) (byteLooped (withB s (countByte kind (s .b) .counter)) offset cost (countByte kind (s .b)))
+    (pick (eqb counter 4) (wordLooped (withD s (countWord kind (dOf s) .counter)) offset cost (countWord kind (dOf s)))
+    (pick (eqb counter 5) (wordLooped (withX s (countWord kind (s .x) .counter)) offset cost (countWord kind (s .x)))
+    (pick (eqb counter 6) (wordLooped (withY s (countWord kind (s .y) .counter)) offset cost (countWord kind (s .y)))
+    (wordLooped (withSp s (countWord kind (s .sp) .counter)) offset cost (countWord kind (s .sp)))))))
+
+-- the postbyte p, and the low byte b of the offset
+unfoldable pub loopDone : State → ℕ → ℕ → ℕ → Effect
+loopDone s p b cost = looped (p % 8) s (p / 32) (extend9 (bitOf 4 p) b) cost
 
 unfoldable pub loopEffect : State → List ℕ → Decoded → Effect
-loopEffect s m d =
-    let p = byteAt m (d .at) in
-    looped (p % 8) s (p / 32) (loopOffset p (byteAt m (plusW (d .at) 1))) (d .cost)
+loopEffect s m d = loopDone s (byteAt m (d .at)) (byteAt m (plusW (d .at) 1)) (d .cost)

@@ -1,4 +1,2 @@
 pub mod Branches
-pub mod Stack
-pub mod Jumps
-pub mod Moves
+pub mod Control

@@ -1,64 +1,20 @@
--- The laws of the state record and of the packed schedule, on the definitions alone. Assumes nothing.
-use Prim.Native.Nat.{ℕ, suc, _+_, _-_, _/_, _<_, _≤_}
+-- The laws of the refusals and of what a door leaves, on the definitions alone. Assumes nothing.
+use Prim.Native.Nat.{ℕ, _≤_}
 use native.Mathlib.Omega.{arith}
-use native.Mathlib.Numerals.{add-one}
 use mathlib.Core.Path.{_≡_, refl, sym, _∙_}
 use mathlib.Core.Bool.{Bool, true, false}
-use mathlib.Core.List.{List, [], _∷_}
-use lib.Dec.{eqb}
-use lib.ListN.{length, getD, set, take, length-set}
-use lib.Seq.{take-all, take-suc, take-suc-set}
-use borrow.Author.Tests.{eq-eqb, ne-eqb, eqb-true}
+use mathlib.Core.List.{List}
+use lib.Dec.{eqb, ltb}
+use lib.ListN.{length}
+use borrow.Author.Tests.{eq-eqb, ne-eqb, eqb-true, ltb-false}
 use Rattle.word.specs.Word.{pick}
-use Rattle.state.specs.declared.State.{State}
-use Rattle.machine.specs.declared.Answer.{Answer}
+use Rattle.run.specs.declared.Answer.{Answer}
 use Rattle.machine.specs.Names.{numberOf}
-use Rattle.machine.specs.End.{End, Ends}
-use Rattle.guide.specs.Bytes.{recordSize, packedSize, bytesOf, recordAt, recordsFrom, recordsOf}
-use Rattle.guide.specs.Doors.{wrongLength, lengthRefusal, recordRefusal, firstOf, unless, told, Left, Leaves, OneOutcome}
-
-pub bytes-long : (s : State) (cycles : ℕ) → length (bytesOf s cycles) ≡ recordSize
-unfolding bytesOf
-bytes-long s cycles = refl
-
--- What holds at each turn of the loop that copies a record's bytes: the first of them are there.
-pub record Copying (bytes r : List ℕ) (i : ℕ) : Type 0 where
-  pub whole : length r ≡ recordSize
-  pub long : length bytes ≡ recordSize
-  pub upto : i ≤ recordSize
-  pub same : take i r ≡ take i bytes
-
-pub copied-one : {bytes r : List ℕ} {i : ℕ} → Copying bytes r i → i < recordSize → Copying bytes (set r i (getD bytes i 0)) (i + 1)
-copied-one {bytes} {r} {i} c h = record {
-  whole = length-set r i (getD bytes i 0) ∙ c .whole;
-  long = c .long;
-  upto = omega arith;
-  same =
-      let inside : i < length r = omega (arith, c .whole) in
-      let within : i < length bytes = omega (arith, c .long) in
-      rw (add-one i, take-suc-set r i (getD bytes i 0) inside, take-suc bytes i 0 within, c .same);
-}
-
-pub copied-all : {bytes r : List ℕ} {i : ℕ} → Copying bytes r i → recordSize ≤ i → r ≡ bytes
-copied-all {bytes} {r} {i} c h =
-    sym (take-all i r (omega (arith, c .whole))) ∙ c .same ∙ take-all i bytes (omega (arith, c .long))
-
--- all of the packed records are those from the start on
-pub from-start : (bytes : List ℕ) → recordsFrom bytes ((length bytes - 0) / packedSize) 0 ≡ recordsOf bytes
-from-start bytes = let e : length bytes - 0 ≡ length bytes = omega arith in rw e
-
--- one turn of the loop over packed records, and its end
-pub one-more : (bytes : List ℕ) (i : ℕ) → packedSize ≤ length bytes - i
-    → recordsFrom bytes ((length bytes - i) / packedSize) i
-    ≡ recordAt bytes i ∷ recordsFrom bytes ((length bytes - (i + packedSize)) / packedSize) (i + packedSize)
-unfolding recordsFrom
-one-more bytes i h =
-    let e : (length bytes - i) / packedSize ≡ suc ((length bytes - (i + packedSize)) / packedSize) = omega arith in
-    rw e
-
-pub no-more : (bytes : List ℕ) (i : ℕ) → length bytes - i < packedSize → recordsFrom bytes ((length bytes - i) / packedSize) i ≡ []
-unfolding recordsFrom
-no-more bytes i h = let e : (length bytes - i) / packedSize ≡ 0 = omega arith in rw e
+use Rattle.run.specs.End.{End, Ends}
+use Rattle.packing.specs.Bytes.{byteIn, recordSize, waitingPlace, bytesOf}
+use Rattle.packing.specs.Again.{IsRecord}
+use Rattle.guide.specs.Doors.{wrongLength, wrongFlag, lengthRefusal, flagRefusal, recordRefusal, firstOf, unless, told}
+use Rattle.guide.specs.Doors.{Left, Leaves, OneOutcome}
 
 -- a record of another length is refused
 pub other-length : (r : List ℕ) → lengthRefusal r ≡ 0 → length r ≡ recordSize
@@ -90,8 +46,16 @@ none-first a b z = go (eqb a 0) refl z
     go true same z = eqb-true _ _ same
     go false other z = z
 
-pub record-whole : (r : List ℕ) → recordRefusal r ≡ 0 → length r ≡ recordSize
-record-whole r z = other-length r (none-first _ _ z)
+-- what is not refused is a state record
+pub accepted : (r : List ℕ) → recordRefusal r ≡ 0 → IsRecord r
+accepted r z =
+    let none = none-first (lengthRefusal r) (flagRefusal r) z in
+    let passed : flagRefusal r ≡ 0 = sym (first-passes (lengthRefusal r) (flagRefusal r) refl none) ∙ z in
+    record { whole = other-length r none; flag = go (ltb 1 (byteIn r waitingPlace)) refl passed }
+  where
+    go : (t : Bool) → ltb 1 (byteIn r waitingPlace) ≡ t → pick t wrongFlag 0 ≡ 0 → byteIn r waitingPlace ≤ 1
+    go true past z = omega (arith, z)
+    go false within z = ltb-false _ _ within
 
 -- a door that refuses, and one that does not
 pub door-refuses : (n : ℕ) (r m : List ℕ) (l : Left) {v : ℕ} → v ≡ n → (v ≡ 0 → ⊥) → Leaves (unless n r m l) v r m

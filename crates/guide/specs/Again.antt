@@ -1,24 +1,16 @@
--- A state and its record say the same, and a refusal changes neither them nor the memory. Each law is proved under the same name in
--- proofs/Again.antt.
+-- A record that is not refused says what its state says, and a refusal changes neither the record nor the memory. Each law is proved
+-- under the same name in proofs/Again.antt.
 use Prim.Native.Nat.{ℕ}
 use mathlib.Core.Path.{_≡_}
 use mathlib.Core.List.{List}
-use lib.ListN.{take}
-use Rattle.state.specs.declared.State.{State}
-use Rattle.machine.specs.Bounds.{AreBytes}
-use Rattle.machine.specs.Step.{refusal}
-use Rattle.machine.specs.Run.{runRefusal}
+use Rattle.memory.specs.Memory.{AreBytes}
+use Rattle.run.specs.Step.{refusal}
+use Rattle.run.specs.Given.{givenIs}
+use Rattle.run.specs.Run.{runRefusal}
 use Rattle.records.specs.Records.{cyclesOf, linesOf}
-use Rattle.guide.specs.Bytes.{stateOf, bytesOf, recordsOf}
+use Rattle.packing.specs.Bytes.{stateOf, bytesOf, recordsOf}
+use Rattle.packing.specs.Again.{stateBytes}
 use Rattle.guide.specs.Doors.{Left, recordRefusal, stepLeaves, runLeaves}
-
--- a state, taken to its record and back
-abbrev pub StateAgain : Type 0
-StateAgain = (s : State) (cycles : ℕ) → stateOf (bytesOf s cycles) ≡ s
-
--- the state's bytes of a record: all but the cycles used
-abbrev pub stateBytes : List ℕ → List ℕ
-stateBytes r = take 16 r
 
 -- the state's bytes of a record that is not refused, taken to the state and back
 abbrev pub RecordAgain : Type 0
@@ -37,5 +29,5 @@ abbrev pub RefusedRunKeeps : Type 0
 RefusedRunKeeps =
     (r m schedule : List ℕ) (budget : ℕ) →
     AreBytes r →
-    (runRefusal (stateOf r) m (cyclesOf (recordsOf schedule)) (linesOf (recordsOf schedule)) budget ≡ 0 → ⊥) →
+    (runRefusal (stateOf r) m (givenIs (cyclesOf (recordsOf schedule)) (linesOf (recordsOf schedule))) budget ≡ 0 → ⊥) →
     AsLent (runLeaves r m schedule budget) r m

@@ -5,11 +5,13 @@ use mathlib.Core.List.{List}
 use lib.Dec.{eqb, ltb}
 use lib.ListN.{length}
 use Rattle.word.specs.Word.{pick}
-use Rattle.machine.specs.End.{End}
-use Rattle.machine.specs.Step.{resetReply, resetOf, stepOf}
-use Rattle.machine.specs.Run.{runOf}
+use Rattle.machine.specs.Reset.{resetReply, resetOf}
+use Rattle.run.specs.Given.{givenIs}
+use Rattle.run.specs.End.{End}
+use Rattle.run.specs.Step.{stepOf}
+use Rattle.run.specs.Run.{runOf}
 use Rattle.records.specs.Records.{cyclesOf, linesOf}
-use Rattle.guide.specs.Bytes.{byteFrom, recordSize, waitingPlace, packedSize, stateOf, bytesOf, recordsOf}
+use Rattle.packing.specs.Bytes.{byteIn, recordSize, waitingPlace, packedSize, stateOf, bytesOf, recordsOf}
 
 -- the numbers of the door's own refusals: a state record of another length, a waiting flag neither 0 nor 1, and a part of a record
 abbrev pub wrongLength : ℕ
@@ -37,7 +39,7 @@ abbrev pub lengthRefusal : List ℕ → ℕ
 lengthRefusal r = pick (eqb (length r) recordSize) 0 wrongLength
 
 abbrev pub flagRefusal : List ℕ → ℕ
-flagRefusal r = pick (ltb 1 (byteFrom r waitingPlace)) wrongFlag 0
+flagRefusal r = pick (ltb 1 (byteIn r waitingPlace)) wrongFlag 0
 
 abbrev pub packingRefusal : List ℕ → ℕ
 packingRefusal schedule = pick (eqb (length schedule % packedSize) 0) 0 wrongPacking
@@ -69,7 +71,7 @@ stepLeaves r m line = unless (recordRefusal r) r m (told (stepOf (stateOf r) m l
 abbrev pub runLeaves : List ℕ → List ℕ → List ℕ → ℕ → Left
 runLeaves r m schedule budget =
     unless (lentRefusal r schedule) r m
-    (told (runOf (stateOf r) m (cyclesOf (recordsOf schedule)) (linesOf (recordsOf schedule)) budget))
+    (told (runOf (stateOf r) m (givenIs (cyclesOf (recordsOf schedule)) (linesOf (recordsOf schedule))) budget))
 
 -- What is promised of a door's reply, and of the record r′ and the memory m′ at exit: they are what is left.
 pub record Leaves (l : Left) (reply : ℕ) (r′ m′ : List ℕ) : Type 0 where

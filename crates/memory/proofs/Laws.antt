@@ -48,7 +48,11 @@ pub record Storing (m₀ : List ℕ) (start : ℕ) (bytes : List ℕ) (end : ℕ
   pub nine : length bytes ≡ 9
   pub rest : storeAll m at (drop i (take end bytes)) ≡ storeAll m₀ start (take end bytes)
 
-pub stored-one : {m₀ : List ℕ} {start : ℕ} {bytes : List ℕ} {end : ℕ} {m : List ℕ} {at i : ℕ} → Storing m₀ start bytes end m at i → i < end → Storing m₀ start bytes end (set m at (getD bytes i 0)) (plusW at 1) (i + 1)
+pub stored-one :
+    {m₀ : List ℕ} {start : ℕ} {bytes : List ℕ} {end : ℕ} {m : List ℕ} {at i : ℕ} →
+    Storing m₀ start bytes end m at i →
+    i < end →
+    Storing m₀ start bytes end (set m at (getD bytes i 0)) (plusW at 1) (i + 1)
 stored-one {m₀} {start} {bytes} {end} {m} {at} {i} s h =
     record {
       whole = simp length-set (s .whole);
@@ -62,7 +66,11 @@ stored-one {m₀} {start} {bytes} {end} {m} {at} {i} s h =
           rw (add-one i, ← getD-take end bytes i 0 h) (sym (store-turn m at (take end bytes) i below) ∙ s .rest);
     }
 
-pub stored-all : {m₀ : List ℕ} {start : ℕ} {bytes : List ℕ} {end : ℕ} {m : List ℕ} {at i : ℕ} → Storing m₀ start bytes end m at i → end ≤ i → m ≡ storeAll m₀ start (take end bytes)
+pub stored-all :
+    {m₀ : List ℕ} {start : ℕ} {bytes : List ℕ} {end : ℕ} {m : List ℕ} {at i : ℕ} →
+    Storing m₀ start bytes end m at i →
+    end ≤ i →
+    m ≡ storeAll m₀ start (take end bytes)
 stored-all {m₀} {start} {bytes} {end} {m} {at} {i} s h =
     let most : end ≤ length bytes = omega (arith, s .end-nine, s .nine) in
     let all : i ≡ length (take end bytes) = rw (length-take-le end bytes most) (omega (arith, s .upto)) in
@@ -85,7 +93,10 @@ stores-exactly m start (b ∷ bs) a whole in-start short in-a =
     let later = stores-exactly (set m start b) (plusW start 1) bs a (simp length-set whole) (omega arith) fewer in-a in
     later ∙ go (ℕ-discrete a start)
   where
-    go : Dec (a ≡ start) → pick (ltb (minusW a (plusW start 1)) (length bs)) (getD bs (minusW a (plusW start 1)) 0) (byteAt (set m start b) a) ≡ pick (ltb (minusW a start) (suc (length bs))) (getD (b ∷ bs) (minusW a start) 0) (byteAt m a)
+    go :
+        Dec (a ≡ start) →
+        pick (ltb (minusW a (plusW start 1)) (length bs)) (getD bs (minusW a (plusW start 1)) 0) (byteAt (set m start b) a)
+        ≡ pick (ltb (minusW a start) (suc (length bs))) (getD (b ∷ bs) (minusW a start) 0) (byteAt m a)
     go (yes e) =
         let far : length bs ≤ minusW a (plusW start 1) = omega arith in
         let here : minusW a start ≡ 0 = omega arith in

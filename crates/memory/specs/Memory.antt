@@ -21,12 +21,16 @@ storeAll m a [] = m
 storeAll m a (b ∷ bs) = storeAll (set m a b) (plusW a 1) bs
 
 -- the bytes of a store: as many of its nine places as it counts
-abbrev pub runOf : Store → List ℕ
-runOf w = take (w .count) (w .bytes)
+abbrev pub bytesStored : Store → List ℕ
+bytesStored w = take (w .count) (w .bytes)
 
 -- the memory after a store
 abbrev pub committed : List ℕ → Store → List ℕ
-committed m w = storeAll m (w .at) (runOf w)
+committed m w = storeAll m (w .at) (bytesStored w)
+
+-- a memory, or any run of numbers, holds bytes
+abbrev pub AreBytes : List ℕ → Type 0
+AreBytes m = (a : ℕ) → byteAt m a < 256
 
 -- The law of a store, at every address a. Where a is less than the run's length past the start, modulo 65,536, the byte of
 -- the run at that distance; at any other address the byte that was there.

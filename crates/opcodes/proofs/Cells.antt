@@ -13,13 +13,13 @@ use Rattle.opcodes.specs.declared.Cell.{Cell}
 use Rattle.opcodes.specs.Kind.{TRAP, PAGE2, TFR/EXG, LOOP}
 use Rattle.opcodes.specs.Grid.{families, familyOf, grid, gridAt}
 use Rattle.opcodes.specs.Map.{pageOne, pageTwo, cellOf, cellNumber, opcodeMap}
-use Rattle.opcodes.specs.Postbyte.{formOf, extensionOf, indexedOf, formReserved, reservedOf, lengthOf, costOf, untakenOf}
+use Rattle.opcodes.specs.Postbyte.{formOf, extensionOf, indexedOf, formReserved, reservedOf, lengthIn, lengthOf, costIn, costOf, untakenOf}
 use Rattle.opcodes.specs.Rules.{stopsOf, stopCell, trapCell, prebyteCell, runs, regular, column, EveryCell, EveryInstruction}
 use Rattle.opcodes.proofs.Postbytes.{one-of-five}
 
 -- a cell from its number
 abbrev pub unpacked : ℕ → Cell
-unpacked p = record { kind = p / 0x100000 % 256; mode = p / 0x10000 % 16; family = p / 0x100 % 256; length = p / 0x10 % 16; cost = p % 16 }
+unpacked p = record { kind = p / 0x100000 % 4096; mode = p / 0x10000 % 16; family = p / 0x100 % 256; length = p / 0x10 % 16; cost = p % 16 }
 
 -- two cells agree in each of the five parts
 parts : Cell → Cell → List Bool
@@ -94,13 +94,6 @@ every-cell k h =
       priced = λ r. eqb→eq _ _ (rw r at (pass 6));
     }
 
--- the cost and the length of a cell with an indexed postbyte of form j
-priceIn : Cell → ℕ → ℕ
-priceIn c j = pick (indexedOf c) (gridAt (c .family) (3 + j)) (c .cost)
-
-lengthIn : Cell → ℕ → ℕ
-lengthIn c j = c .length + pick (indexedOf c) (extensionOf j) 0
-
 -- a form that the cell does not have
 missing : Cell → ℕ → Bool
 missing c j = pick (indexedOf c) (eqb (gridAt (c .family) (3 + j)) 0) false
@@ -112,8 +105,8 @@ asked k j t = pick (runs k) (pick (missing (cellOf k) j) true t) true
 bounds : ℕ → ℕ → List Bool
 bounds k j =
     let c = cellOf k in
-    asked k j (leb 1 (priceIn c j))
-    ∷ asked k j (leb (priceIn c j) 13)
+    asked k j (leb 1 (costIn c j))
+    ∷ asked k j (leb (costIn c j) 13)
     ∷ asked k j (pick (indexedOf c) true (leb 1 (untakenOf c)))
     ∷ asked k j (leb (untakenOf c) 13)
     ∷ asked k j (leb 1 (lengthIn c j))
@@ -123,7 +116,7 @@ bounds k j =
 
 -- the one test over every cell in every form
 bounded : (k j : ℕ) → k < 512 → j < 5 → T (all (bounds k j))
-unfolding bounds asked missing priceIn lengthIn cellOf pageOne pageTwo familyOf families gridAt grid extensionOf untakenOf
+unfolding bounds asked missing cellOf pageOne pageTwo familyOf families gridAt grid extensionOf untakenOf
 bounded k j h i = at-number (λ j. all (bounds k j)) 5 (at-number (λ k. everyBelow (λ j. all (bounds k j)) 5) 512 tt k h) j i
 
 -- what a test says, of a cell that runs and in a form that it has
@@ -149,7 +142,7 @@ not-missing k postbyte h i r =
     r
 
 pub every-instruction : EveryInstruction
-unfolding bounds costOf lengthOf priceIn lengthIn
+unfolding bounds costOf lengthOf
 every-instruction k p h i r n =
     let j = formOf p in
     let pass = holds (bounds k j) (bounded k j h (one-of-five p i)) in

@@ -6,7 +6,7 @@ use lib.Dec.{T, ltb, eqb, eqb→eq, ltb→lt}
 use lib.ListN.{getD}
 use Rattle.word.specs.Word.{pick}
 use Rattle.word.proofs.Table.{at-number}
-use Rattle.opcodes.specs.Postbyte.{IDX, IDX1, IDX2, [D:IDX], [IDX2], formOf, extensionOf, OneOfFive, AsTabled}
+use Rattle.opcodes.specs.Postbyte.{IDX, IDX1, IDX2, [D:IDX], [IDX2], formOf, OneOfFive, AsTabled}
 
 pub as-tabled : AsTabled
 unfolding formOf
@@ -14,18 +14,6 @@ as-tabled p h =
     eqb→eq _ _
     (at-number
     (λ p. eqb (formOf p) (pick (ltb p 0xE0) IDX (getD (IDX1 ∷ IDX1 ∷ IDX2 ∷ [IDX2] ∷ IDX ∷ IDX ∷ IDX ∷ [D:IDX] ∷ []) (p % 8) IDX)))
-    256
-    tt
-    p
-    h)
-
--- the same for the bytes that follow
-pub extension-tabled : (p : ℕ) → p < 256 → extensionOf (formOf p) ≡ pick (ltb p 0xE0) 0 (getD (1 ∷ 1 ∷ 2 ∷ 2 ∷ 0 ∷ 0 ∷ 0 ∷ 0 ∷ []) (p % 8) 0)
-unfolding formOf extensionOf
-extension-tabled p h =
-    eqb→eq _ _
-    (at-number
-    (λ p. eqb (extensionOf (formOf p)) (pick (ltb p 0xE0) 0 (getD (1 ∷ 1 ∷ 2 ∷ 2 ∷ 0 ∷ 0 ∷ 0 ∷ 0 ∷ []) (p % 8) 0)))
     256
     tt
     p

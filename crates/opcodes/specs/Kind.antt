@@ -1,6 +1,13 @@
--- A number for each instruction of the opcode map, by its name in source document 002. The high digit is the group and the
--- low digit the member, so that a group has at most sixteen members; in the groups 3, 4 and 6 the low digit is the opcode's.
-use Prim.Native.Nat.{ℕ}
+-- A number for each instruction of the opcode map, by its name in source document 002. The number without its last hexadecimal digit
+-- is the group and the last digit the member, so that a group has at most sixteen members; there may be more than 256 kinds.
+use Prim.Native.Nat.{ℕ, _/_, _%_}
+
+-- the group and the member of a kind
+abbrev pub groupOf : ℕ → ℕ
+groupOf kind = kind / 16
+
+abbrev pub memberOf : ℕ → ℕ
+memberOf kind = kind % 16
 
 -- what stops the machine (document 01's ten encodings; CALL has two), and the prebyte
 abbrev pub BGND : ℕ
@@ -131,7 +138,7 @@ LBGT = 0x2E
 abbrev pub LBLE : ℕ
 LBLE = 0x2F
 
--- A with an operand
+-- A with an operand, by the opcode's second digit
 abbrev pub SUBA : ℕ
 SUBA = 0x30
 
@@ -162,7 +169,7 @@ ORAA = 0x3A
 abbrev pub ADDA : ℕ
 ADDA = 0x3B
 
--- B with an operand
+-- B with an operand, by the opcode's second digit
 abbrev pub SUBB : ℕ
 SUBB = 0x40
 
@@ -224,7 +231,7 @@ LDX = 0x58
 abbrev pub LDS : ℕ
 LDS = 0x59
 
--- stores
+-- stores, by the opcode's second digit
 abbrev pub STAA : ℕ
 STAA = 0x6A
 
@@ -243,7 +250,7 @@ STX = 0x6E
 abbrev pub STS : ℕ
 STS = 0x6F
 
--- read, change and write back; clear; test
+-- a byte of memory is read, changed and written back; cleared; tested
 abbrev pub NEG : ℕ
 NEG = 0x70
 
@@ -345,7 +352,7 @@ CLRB = 0x99
 abbrev pub TSTB : ℕ
 TSTB = 0x9A
 
--- inherent operations on D, X, Y, A and B; condition codes; transfers
+-- registers and condition codes alone
 abbrev pub LSRD : ℕ
 LSRD = 0xA0
 
@@ -394,7 +401,7 @@ TFR/EXG = 0xAE
 abbrev pub NOP : ℕ
 NOP = 0xAF
 
--- multiply, divide, table lookup
+-- products and quotients
 abbrev pub MUL : ℕ
 MUL = 0xB0
 
@@ -422,13 +429,7 @@ IDIVS = 0xB7
 abbrev pub FDIV : ℕ
 FDIV = 0xB8
 
-abbrev pub TBL : ℕ
-TBL = 0xB9
-
-abbrev pub ETBL : ℕ
-ETBL = 0xBA
-
--- the stack
+-- pulls and pushes
 abbrev pub PULX : ℕ
 PULX = 0xC0
 
@@ -465,35 +466,29 @@ PULD = 0xCA
 abbrev pub PSHD : ℕ
 PSHD = 0xCB
 
--- jumps, returns, interrupts, loops
-abbrev pub JMP : ℕ
-JMP = 0xD0
-
-abbrev pub JSR : ℕ
-JSR = 0xD1
-
+-- subroutines, interrupts and loops: what changes the flow and has no operand in memory
 abbrev pub BSR : ℕ
-BSR = 0xD2
+BSR = 0xD0
 
 abbrev pub RTS : ℕ
-RTS = 0xD3
+RTS = 0xD1
 
 abbrev pub RTI : ℕ
-RTI = 0xD4
+RTI = 0xD2
 
 abbrev pub SWI : ℕ
-SWI = 0xD5
+SWI = 0xD3
 
 abbrev pub TRAP : ℕ
-TRAP = 0xD6
+TRAP = 0xD4
 
 abbrev pub WAI : ℕ
-WAI = 0xD7
+WAI = 0xD5
 
 abbrev pub LOOP : ℕ
-LOOP = 0xD8
+LOOP = 0xD6
 
--- addresses, bits, moves
+-- what takes the operand's address alone
 abbrev pub LEAY : ℕ
 LEAY = 0xE0
 
@@ -503,25 +498,13 @@ LEAX = 0xE1
 abbrev pub LEAS : ℕ
 LEAS = 0xE2
 
-abbrev pub BSET : ℕ
-BSET = 0xE3
+abbrev pub JMP : ℕ
+JMP = 0xE3
 
-abbrev pub BCLR : ℕ
-BCLR = 0xE4
+abbrev pub JSR : ℕ
+JSR = 0xE4
 
-abbrev pub BRSET : ℕ
-BRSET = 0xE5
-
-abbrev pub BRCLR : ℕ
-BRCLR = 0xE6
-
-abbrev pub MOVB : ℕ
-MOVB = 0xE7
-
-abbrev pub MOVW : ℕ
-MOVW = 0xE8
-
--- minimum and maximum
+-- the larger or smaller of two
 abbrev pub MAXA : ℕ
 MAXA = 0xF0
 
@@ -545,3 +528,85 @@ EMAXM = 0xF6
 
 abbrev pub EMINM : ℕ
 EMINM = 0xF7
+
+-- moves
+abbrev pub MOVB : ℕ
+MOVB = 0x100
+
+abbrev pub MOVW : ℕ
+MOVW = 0x101
+
+-- table lookup
+abbrev pub TBL : ℕ
+TBL = 0x110
+
+abbrev pub ETBL : ℕ
+ETBL = 0x111
+
+-- bits of memory: changed, or tested for a branch
+abbrev pub BSET : ℕ
+BSET = 0x120
+
+abbrev pub BCLR : ℕ
+BCLR = 0x121
+
+abbrev pub BRSET : ℕ
+BRSET = 0x122
+
+abbrev pub BRCLR : ℕ
+BRCLR = 0x123
+
+-- the groups, each by the first of its kinds
+abbrev pub SHORT-BRANCHES : ℕ
+SHORT-BRANCHES = groupOf BRA
+
+abbrev pub LONG-BRANCHES : ℕ
+LONG-BRANCHES = groupOf LBRA
+
+abbrev pub WITH-A : ℕ
+WITH-A = groupOf SUBA
+
+abbrev pub WITH-B : ℕ
+WITH-B = groupOf SUBB
+
+abbrev pub WITH-WORD : ℕ
+WITH-WORD = groupOf SUBD
+
+abbrev pub STORES : ℕ
+STORES = groupOf STAA
+
+abbrev pub IN-MEMORY : ℕ
+IN-MEMORY = groupOf NEG
+
+abbrev pub IN-A : ℕ
+IN-A = groupOf NEGA
+
+abbrev pub IN-B : ℕ
+IN-B = groupOf NEGB
+
+abbrev pub REGISTERS : ℕ
+REGISTERS = groupOf LSRD
+
+abbrev pub PRODUCTS : ℕ
+PRODUCTS = groupOf MUL
+
+abbrev pub STACK : ℕ
+STACK = groupOf PULX
+
+abbrev pub CONTROL : ℕ
+CONTROL = groupOf BSR
+
+abbrev pub ADDRESSES : ℕ
+ADDRESSES = groupOf LEAY
+
+abbrev pub CHOICES : ℕ
+CHOICES = groupOf MAXA
+
+abbrev pub MOVES : ℕ
+MOVES = groupOf MOVB
+
+abbrev pub LOOKUPS : ℕ
+LOOKUPS = groupOf TBL
+
+abbrev pub BITS : ℕ
+BITS = groupOf BSET

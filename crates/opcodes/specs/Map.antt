@@ -244,7 +244,7 @@ unfoldable pub cellOf : ℕ → Cell
 unfolding pageOne pageTwo
 cellOf k = pick (ltb k 256) (cellIn pageOne k) (cellIn pageTwo (k - 256))
 
--- A cell as one number, two hexadecimal digits for the kind, one for the mode, two for the family, one each for length and cost.
+-- A cell as one number, three hexadecimal digits for the kind, one for the mode, two for the family, one each for length and cost.
 abbrev pub packed : Cell → ℕ
 packed c = c .kind * 0x100000 + c .mode * 0x10000 + c .family * 0x100 + c .length * 0x10 + c .cost
 

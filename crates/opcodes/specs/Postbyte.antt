@@ -7,7 +7,7 @@ use lib.ListN.{getD}
 use lib.Dec.{leb, ltb, eqb}
 use Rattle.word.specs.Word.{pick, bitOf}
 use Rattle.opcodes.specs.declared.Cell.{Cell}
-use Rattle.opcodes.specs.Kind.{TFR/EXG, LOOP}
+use Rattle.opcodes.specs.Kind.{TFR/EXG, LOOP, groupOf, SHORT-BRANCHES, LONG-BRANCHES}
 use Rattle.opcodes.specs.Mode.{ID}
 use Rattle.opcodes.specs.Grid.{gridAt}
 
@@ -40,7 +40,7 @@ formOf postbyte =
 
 -- the bytes that follow the postbyte: the low byte of a 9-bit offset, or the two of a 16-bit one
 unfoldable pub extensionOf : ℕ → ℕ
-extensionOf form = getD (0 ∷ 1 ∷ 2 ∷ 0 ∷ 2 ∷ []) form 0
+extensionOf form = pick (eqb form IDX1) 1 (pick (eqb form IDX2) 2 (pick (eqb form [IDX2]) 2 0))
 
 -- whether a cell has an indexed postbyte
 abbrev pub indexedOf : Cell → Bool
@@ -65,18 +65,25 @@ reservedOf c postbyte =
     (pick (eqb (c .kind) LOOP) (loopReserved postbyte)
     (pick (indexedOf c) (formReserved c postbyte) false))
 
--- the length of the whole instruction, with its postbyte
+-- the length of the whole instruction in an address form, and with its postbyte
+abbrev pub lengthIn : Cell → ℕ → ℕ
+lengthIn c form = c .length + pick (indexedOf c) (extensionOf form) 0
+
 unfoldable pub lengthOf : Cell → ℕ → ℕ
-lengthOf c postbyte = c .length + pick (indexedOf c) (extensionOf (formOf postbyte)) 0
+lengthOf c postbyte = lengthIn c (formOf postbyte)
 
--- the cost of the whole instruction, with its postbyte; of a branch, when it is taken
+-- the cost of the whole instruction in an address form, and with its postbyte; of a branch, when it is taken
+abbrev pub costIn : Cell → ℕ → ℕ
+costIn c form = pick (indexedOf c) (gridAt (c .family) (3 + form)) (c .cost)
+
 unfoldable pub costOf : Cell → ℕ → ℕ
-costOf c postbyte = pick (indexedOf c) (gridAt (c .family) (3 + formOf postbyte)) (c .cost)
+costOf c postbyte = costIn c (formOf postbyte)
 
--- The cost of a branch that is not taken (003, "Special Cases": PPP/P and OPPP/OPO): 1 for a short one, kinds 10 to 1F, 3 for a
--- long one, kinds 20 to 2F. Any other instruction costs the same either way.
+-- The cost of a branch that is not taken (003, "Special Cases": PPP/P and OPPP/OPO): 1 for a short one, 3 for a long one. Any other
+-- instruction costs the same either way.
 unfoldable pub untakenOf : Cell → ℕ
-untakenOf c = pick (eqb (c .kind / 16) 1) 1 (pick (eqb (c .kind / 16) 2) 3 (c .cost))
+untakenOf c =
+    pick (eqb (groupOf (c .kind)) SHORT-BRANCHES) 1 (pick (eqb (groupOf (c .kind)) LONG-BRANCHES) 3 (c .cost))
 
 -- The laws, each proved under the same name in proofs/Postbytes.antt.
 

@@ -1,12 +1,14 @@
 -- The effective address of an indexed operand, and the base register's update with it (document 01, "Addresses"; source document
 -- 002, section 3.8, pp. 3-5 to 3-10, and table A-5; 000, table 4).
 use Prim.Native.Nat.{ℕ, _+_, _/_, _%_}
+use mathlib.Core.Path.{_≡_}
 use mathlib.Core.List.{List}
 use lib.Dec.{eqb}
-use Rattle.word.specs.Word.{pick, bitOf, plusW}
+use Rattle.word.specs.Word.{pick, bitOf, plusW, extend9}
 use Rattle.memory.specs.Memory.{byteAt, wordAt}
 use Rattle.state.specs.declared.State.{State}
 use Rattle.state.specs.State.{withX, withY, withSp, dOf}
+use Rattle.opcodes.specs.Postbyte.{formOf, IDX, IDX1, IDX2, [D:IDX]}
 use Rattle.operand.specs.declared.Place.{Place}
 
 abbrev pub placeIs : ℕ → State → Place
@@ -25,12 +27,8 @@ abbrev pub offset5 : ℕ → ℕ
 offset5 p = pick (bitOf 4 p) (p % 32 + 65504) (p % 32)
 
 -- nnnn as the amount of a step: 0 to 7 add 1 to 8, 8 to 15 add -8 to -1
-abbrev pub stepOf : ℕ → ℕ
-stepOf p = pick (bitOf 3 p) (p % 16 + 65520) (p % 16 + 1)
-
--- the byte after the postbyte with the sign s as its ninth bit
-abbrev pub offset9 : ℕ → ℕ → ℕ
-offset9 p b = pick (eqb (p % 2) 1) (b + 65280) b
+abbrev pub stepAmount : ℕ → ℕ
+stepAmount p = pick (bitOf 3 p) (p % 16 + 65520) (p % 16 + 1)
 
 -- rr0nnnnn: a signed 5-bit offset
 abbrev pub fivePlace : State → ℕ → ℕ → Place
@@ -40,24 +38,35 @@ fivePlace s pc p = placeIs (plusW (baseOf s pc (p / 64)) (offset5 p)) s
 unfoldable pub steppedPlace : State → ℕ → Place
 steppedPlace s p =
     let old = baseOf s 0 (p / 64) in
-    let new = plusW old (stepOf p) in
+    let new = plusW old (stepAmount p) in
     pick (bitOf 4 p) (placeIs old (withBase s (p / 64) new)) (placeIs new (withBase s (p / 64) new))
 
--- 111rr0zs: z = 0 a 9-bit offset, zs = 10 a 16-bit one, zs = 11 indirect through a 16-bit one
+-- 111rr0zs: z = 0 a 9-bit offset with the sign s, zs = 10 a 16-bit one, zs = 11 indirect through a 16-bit one
+abbrev pub nineBits : State → List ℕ → ℕ → ℕ → ℕ → Place
+nineBits s m at pc p = placeIs (plusW (baseOf s pc (p / 8 % 4)) (extend9 (bitOf 0 p) (byteAt m (plusW at 1)))) s
+
+abbrev pub sixteenBits : State → List ℕ → ℕ → ℕ → ℕ → Place
+sixteenBits s m at pc p = placeIs (plusW (baseOf s pc (p / 8 % 4)) (wordAt m (plusW at 1))) s
+
+abbrev pub throughSixteen : State → List ℕ → ℕ → ℕ → ℕ → Place
+throughSixteen s m at pc p = placeIs (wordAt m (sixteenBits s m at pc p .address)) s
+
 unfoldable pub constantPlace : State → List ℕ → ℕ → ℕ → ℕ → Place
 constantPlace s m at pc p =
-    let base = baseOf s pc (p / 8 % 4) in
-    let far = plusW base (wordAt m (plusW at 1)) in
-    pick (bitOf 1 p) (pick (eqb (p % 2) 1) (placeIs (wordAt m far) s) (placeIs far s))
-    (placeIs (plusW base (offset9 p (byteAt m (plusW at 1)))) s)
+    pick (bitOf 1 p) (pick (bitOf 0 p) (throughSixteen s m at pc p) (sixteenBits s m at pc p)) (nineBits s m at pc p)
 
 -- 111rr1aa: unsigned A, unsigned B, D, or indirect through D
-unfoldable pub accumulatorPlace : State → List ℕ → ℕ → ℕ → Place
-accumulatorPlace s m pc p =
+abbrev pub plainAccumulator : State → ℕ → ℕ → Place
+plainAccumulator s pc p =
     let base = baseOf s pc (p / 8 % 4) in
     pick (eqb (p % 4) 0) (placeIs (plusW base (s .a)) s)
-    (pick (eqb (p % 4) 1) (placeIs (plusW base (s .b)) s)
-    (pick (eqb (p % 4) 2) (placeIs (plusW base (dOf s)) s) (placeIs (wordAt m (plusW base (dOf s))) s)))
+    (pick (eqb (p % 4) 1) (placeIs (plusW base (s .b)) s) (placeIs (plusW base (dOf s)) s))
+
+abbrev pub throughD : State → List ℕ → ℕ → ℕ → Place
+throughD s m pc p = placeIs (wordAt m (plusW (baseOf s pc (p / 8 % 4)) (dOf s))) s
+
+unfoldable pub accumulatorPlace : State → List ℕ → ℕ → ℕ → Place
+accumulatorPlace s m pc p = pick (eqb (p % 4) 3) (throughD s m pc p) (plainAccumulator s pc p)
 
 -- The place that the postbyte at an address names, with the bytes after it. `pc` is what PC stands for as a base: the address
 -- after the whole instruction, and in a move that address as table 3-3 corrects it.
@@ -67,3 +76,22 @@ indexedPlace s m at pc =
     pick (bitOf 5 p)
     (pick (eqb (p / 64) 3) (pick (bitOf 2 p) (accumulatorPlace s m pc p) (constantPlace s m at pc p)) (steppedPlace s p))
     (fivePlace s pc p)
+
+-- the places of the form IDX: those without a further byte or a pointer
+abbrev pub plainPlace : State → ℕ → ℕ → Place
+plainPlace s pc p =
+    pick (bitOf 5 p) (pick (eqb (p / 64) 3) (plainAccumulator s pc p) (steppedPlace s p)) (fivePlace s pc p)
+
+-- The same place by the postbyte's form, as the decoded instruction has it: that both are the same is `ByItsForm`, proved under that
+-- name in proofs/Forms.antt.
+unfoldable pub placeIn : ℕ → State → List ℕ → ℕ → ℕ → ℕ → Place
+placeIn form s m at pc p =
+    pick (eqb form IDX) (plainPlace s pc p)
+    (pick (eqb form IDX1) (nineBits s m at pc p)
+    (pick (eqb form IDX2) (sixteenBits s m at pc p)
+    (pick (eqb form [D:IDX]) (throughD s m pc p) (throughSixteen s m at pc p))))
+
+abbrev pub ByItsForm : Type 0
+ByItsForm =
+    (s : State) (m : List ℕ) (at pc : ℕ) →
+    placeIn (formOf (byteAt m at)) s m at pc (byteAt m at) ≡ indexedPlace s m at pc

@@ -1,9 +1,17 @@
-// Where an indexed operand lies: its effective address, and the registers once the base register has stepped.
+// Where an operand lies: its effective address, and the registers once the base register has stepped. The postbyte and its form come
+// with the decoded instruction: neither is read or decided again.
+use decode::Decoded;
+use opcodes::form;
+use opcodes::mode;
 use state::State;
 ghost use mathlib.Core.Path.{_≡_};
 ghost use lib.ListN.{length};
+ghost use Rattle.word.specs.Word.{plusW};
+ghost use Rattle.memory.specs.Memory.{byteAt, wordAt};
+ghost use Rattle.opcodes.specs.Postbyte.{formOf};
+ghost use Rattle.decode.specs.Decode.{Faithful};
 ghost use Rattle.operand.specs.Operand.{operandPlace, routeIs, dataSize, immediateToExtended, extendedToExtended, immediateToIndexed, extendedToIndexed, indexedToExtended, indexedToIndexed, routeOf};
-ghost use Rattle.operand.specs.Indexed.{placeIs, baseOf, withBase, offset5, stepOf, offset9, fivePlace, steppedPlace, constantPlace, accumulatorPlace, indexedPlace};
+ghost use Rattle.operand.specs.Indexed.{placeIs, baseOf, withBase, offset5, stepAmount, fivePlace, steppedPlace, nineBits, sixteenBits, throughSixteen, throughD, plainAccumulator, plainPlace, indexedPlace};
 
 // An address, and the state after the base register's update, from which the operation goes on.
 pub struct Place {
@@ -49,22 +57,13 @@ fn five_bits(p: u8) -> u16
 }
 
 fn step_amount(p: u8) -> u16
-    ensures { λ r. ⌜ r ≡ stepOf p ⌝ }
+    ensures { λ r. ⌜ r ≡ stepAmount p ⌝ }
 {
     let n = (p % 16) as u16;
     if p / 8 % 2 == 1 {
         return n + 65520;
     }
     n + 1
-}
-
-fn nine_bits(p: u8, b: u8) -> u16
-    ensures { λ r. ⌜ r ≡ offset9 p b ⌝ }
-{
-    if p % 2 == 1 {
-        return b as u16 + 65280;
-    }
-    b as u16
 }
 
 fn place_at(address: u16, state: State) -> Place
@@ -95,28 +94,41 @@ fn stepped_place(s: State, p: u8) -> Place
     place_at(new, stepped)
 }
 
-fn constant_place(s: State, m: &[u8], at: u16, pc: u16, p: u8) -> Place
+fn nine_bit_place(s: State, m: &[u8], at: u16, pc: u16, p: u8) -> Place
     requires { ⌜ length (now m) ≡ 65536 ⌝ }
-    ensures { λ r. ⌜ r ≡ constantPlace s (now (m .entry)) at pc p ⌝ }
+    ensures { λ r. ⌜ r ≡ nineBits s (now (m .entry)) at pc p ⌝ }
 {
-    let from = base(s, pc, p / 8 % 4);
-    let next = word::plus(at, 1);
-    if p / 2 % 2 == 1 {
-        let far = word::plus(from, memory::read_word(m, next));
-        if p % 2 == 1 {
-            return place_at(memory::read_word(m, far), s);
-        }
-        return place_at(far, s);
-    }
-    place_at(
-        word::plus(from, nine_bits(p, memory::read_byte(m, next))),
-        s,
-    )
+    let low = memory::read_byte(m, word::plus(at, 1));
+    let offset = word::extend_9(p / 1 % 2 == 1, low);
+    place_at(word::plus(base(s, pc, p / 8 % 4), offset), s)
 }
 
-fn accumulator_place(s: State, m: &[u8], pc: u16, p: u8) -> Place
+fn sixteen_bit_place(s: State, m: &[u8], at: u16, pc: u16, p: u8) -> Place
     requires { ⌜ length (now m) ≡ 65536 ⌝ }
-    ensures { λ r. ⌜ r ≡ accumulatorPlace s (now (m .entry)) pc p ⌝ }
+    ensures { λ r. ⌜ r ≡ sixteenBits s (now (m .entry)) at pc p ⌝ }
+{
+    let offset = memory::read_word(m, word::plus(at, 1));
+    place_at(word::plus(base(s, pc, p / 8 % 4), offset), s)
+}
+
+fn through_sixteen(s: State, m: &[u8], at: u16, pc: u16, p: u8) -> Place
+    requires { ⌜ length (now m) ≡ 65536 ⌝ }
+    ensures { λ r. ⌜ r ≡ throughSixteen s (now (m .entry)) at pc p ⌝ }
+{
+    let pointer = sixteen_bit_place(s, m, at, pc, p);
+    place_at(memory::read_word(m, pointer.address), s)
+}
+
+fn through_d(s: State, m: &[u8], pc: u16, p: u8) -> Place
+    requires { ⌜ length (now m) ≡ 65536 ⌝ }
+    ensures { λ r. ⌜ r ≡ throughD s (now (m .entry)) pc p ⌝ }
+{
+    let pointer = word::plus(base(s, pc, p / 8 % 4), s.d());
+    place_at(memory::read_word(m, pointer), s)
+}
+
+fn accumulator_place(s: State, pc: u16, p: u8) -> Place
+    ensures { λ r. ⌜ r ≡ plainAccumulator s pc p ⌝ }
 {
     let from = base(s, pc, p / 8 % 4);
     if p % 4 == 0 {
@@ -125,63 +137,54 @@ fn accumulator_place(s: State, m: &[u8], pc: u16, p: u8) -> Place
     if p % 4 == 1 {
         return place_at(word::plus(from, s.b as u16), s);
     }
-    let far = word::plus(from, s.d());
-    if p % 4 == 2 {
-        return place_at(far, s);
-    }
-    place_at(memory::read_word(m, far), s)
+    place_at(word::plus(from, s.d()), s)
 }
 
-// The place that the postbyte at `at` names. `pc` is what PC stands for as a base.
-pub fn indexed_place(s: State, m: &[u8], at: u16, pc: u16) -> Place
-    requires { ⌜ length (now m) ≡ 65536 ⌝ }
-    ensures { λ r. ⌜ r ≡ indexedPlace s (now (m .entry)) at pc ⌝ }
+// The form IDX: what has no further byte and reads no pointer.
+fn plain_place(s: State, pc: u16, p: u8) -> Place
+    ensures { λ r. ⌜ r ≡ plainPlace s pc p ⌝ }
 {
-    let p = memory::read_byte(m, at);
     if p / 32 % 2 == 1 {
         if p / 64 == 3 {
-            if p / 4 % 2 == 1 {
-                return accumulator_place(s, m, pc, p);
-            }
-            return constant_place(s, m, at, pc, p);
+            return accumulator_place(s, pc, p);
         }
         return stepped_place(s, p);
     }
     five_place(s, pc, p)
 }
 
-// The modes that the map numbers so.
-const IM: u8 = 0;
-
-const DI: u8 = 1;
-
-const EX: u8 = 2;
-
-const IM_EX: u8 = 6;
-
-const EX_EX: u8 = 7;
-
-const IM_ID: u8 = 9;
-
-const EX_ID: u8 = 10;
-
-const ID_EX: u8 = 12;
+// The place that the postbyte p at `at` names, whose form is `form`. `pc` is what PC stands for as a base.
+fn indexed_place(s: State, m: &[u8], at: u16, pc: u16, p: u8, form: u8) -> Place
+    requires { ⌜ length (now m) ≡ 65536 ⌝ }
+    requires { ⌜ p ≡ byteAt (now m) at ⌝ }
+    requires { ⌜ form ≡ formOf p ⌝ }
+    ensures { λ r. ⌜ r ≡ indexedPlace s (now (m .entry)) at pc ⌝ }
+{
+    match form {
+        form::IDX => plain_place(s, pc, p),
+        form::IDX1 => nine_bit_place(s, m, at, pc, p),
+        form::IDX2 => sixteen_bit_place(s, m, at, pc, p),
+        form::D_INDIRECT => through_d(s, m, pc, p),
+        _ => through_sixteen(s, m, at, pc, p),
+    }
+}
 
 // Where the operand of an instruction lies. Immediate data is an operand that lies in the instruction itself.
-pub fn operand_place(s: State, m: &[u8], mode: u8, at: u16) -> Place
+pub fn operand_place(s: State, m: &[u8], d: Decoded) -> Place
     requires { ⌜ length (now m) ≡ 65536 ⌝ }
-    ensures { λ r. ⌜ r ≡ operandPlace s (now (m .entry)) mode at ⌝ }
+    requires { ⌜ Faithful (now m) d ⌝ }
+    ensures { λ r. ⌜ r ≡ operandPlace s (now (m .entry)) (d .mode) (d .at) ⌝ }
 {
-    if mode == IM {
-        return place_at(at, s);
+    if d.mode == mode::IM {
+        return place_at(d.at, s);
     }
-    if mode == DI {
-        return place_at(memory::read_byte(m, at) as u16, s);
+    if d.mode == mode::DI {
+        return place_at(d.postbyte as u16, s);
     }
-    if mode == EX {
-        return place_at(memory::read_word(m, at), s);
+    if d.mode == mode::EX {
+        return place_at(memory::read_word(m, d.at), s);
     }
-    indexed_place(s, m, at, s.pc)
+    indexed_place(s, m, d.at, s.pc, d.postbyte, d.form)
 }
 
 // Where a move takes its operand from and to, and the state after the updates of both base registers.
@@ -222,63 +225,88 @@ fn extended_to_extended(s: State, m: &[u8], at: u16) -> Route
     route_is(source, memory::read_word(m, word::plus(at, 2)), s)
 }
 
-fn immediate_to_indexed(s: State, m: &[u8], at: u16, wide: bool) -> Route
+// The place that the first postbyte of a move names.
+fn first_place(s: State, m: &[u8], d: Decoded, pc: u16) -> Place
     requires { ⌜ length (now m) ≡ 65536 ⌝ }
-    ensures { λ r. ⌜ r ≡ immediateToIndexed s (now (m .entry)) at wide ⌝ }
+    requires { ⌜ Faithful (now m) d ⌝ }
+    ensures { λ r. ⌜ r ≡ indexedPlace s (now (m .entry)) (d .at) pc ⌝ }
 {
-    let to = indexed_place(s, m, at, word::plus(s.pc, data_size(wide)));
-    let after = to.state;
-    route_is(word::plus(at, 1), to.address, after)
+    indexed_place(s, m, d.at, pc, d.postbyte, d.form)
 }
 
-fn extended_to_indexed(s: State, m: &[u8], at: u16) -> Route
+// The place that the postbyte at `at`, the second of a move, names: it was not decoded.
+fn second_place(s: State, m: &[u8], at: u16, pc: u16) -> Place
     requires { ⌜ length (now m) ≡ 65536 ⌝ }
-    ensures { λ r. ⌜ r ≡ extendedToIndexed s (now (m .entry)) at ⌝ }
+    ensures { λ r. ⌜ r ≡ indexedPlace s (now (m .entry)) at pc ⌝ }
 {
-    let to = indexed_place(s, m, at, word::plus(s.pc, 2));
-    let after = to.state;
-    route_is(memory::read_word(m, word::plus(at, 1)), to.address, after)
+    let p = memory::read_byte(m, at);
+    let form = opcodes::form_of(p);
+    indexed_place(s, m, at, pc, p, form)
 }
 
-fn indexed_to_extended(s: State, m: &[u8], at: u16) -> Route
+fn immediate_to_indexed(s: State, m: &[u8], d: Decoded, wide: bool) -> Route
     requires { ⌜ length (now m) ≡ 65536 ⌝ }
-    ensures { λ r. ⌜ r ≡ indexedToExtended s (now (m .entry)) at ⌝ }
+    requires { ⌜ Faithful (now m) d ⌝ }
+    ensures { λ r. ⌜ r ≡ immediateToIndexed s (now (m .entry)) (d .at) wide ⌝ }
 {
-    let from = indexed_place(s, m, at, word::minus(s.pc, 2));
+    let to = first_place(s, m, d, word::plus(s.pc, data_size(wide)));
+    let after = to.state;
+    route_is(word::plus(d.at, 1), to.address, after)
+}
+
+fn extended_to_indexed(s: State, m: &[u8], d: Decoded) -> Route
+    requires { ⌜ length (now m) ≡ 65536 ⌝ }
+    requires { ⌜ Faithful (now m) d ⌝ }
+    ensures { λ r. ⌜ r ≡ extendedToIndexed s (now (m .entry)) (d .at) ⌝ }
+{
+    let to = first_place(s, m, d, word::plus(s.pc, 2));
+    let after = to.state;
+    route_is(memory::read_word(m, word::plus(d.at, 1)), to.address, after)
+}
+
+fn indexed_to_extended(s: State, m: &[u8], d: Decoded) -> Route
+    requires { ⌜ length (now m) ≡ 65536 ⌝ }
+    requires { ⌜ Faithful (now m) d ⌝ }
+    ensures { λ r. ⌜ r ≡ indexedToExtended s (now (m .entry)) (d .at) ⌝ }
+{
+    let from = first_place(s, m, d, word::minus(s.pc, 2));
     let after = from.state;
-    route_is(from.address, memory::read_word(m, word::plus(at, 1)), after)
+    let target = memory::read_word(m, word::plus(d.at, 1));
+    route_is(from.address, target, after)
 }
 
-fn indexed_to_indexed(s: State, m: &[u8], at: u16) -> Route
+fn indexed_to_indexed(s: State, m: &[u8], d: Decoded) -> Route
     requires { ⌜ length (now m) ≡ 65536 ⌝ }
-    ensures { λ r. ⌜ r ≡ indexedToIndexed s (now (m .entry)) at ⌝ }
+    requires { ⌜ Faithful (now m) d ⌝ }
+    ensures { λ r. ⌜ r ≡ indexedToIndexed s (now (m .entry)) (d .at) ⌝ }
 {
-    let from = indexed_place(s, m, at, word::minus(s.pc, 1));
+    let from = first_place(s, m, d, word::minus(s.pc, 1));
     let between = from.state;
-    let to = indexed_place(between, m, word::plus(at, 1), word::plus(s.pc, 1));
+    let to = second_place(between, m, word::plus(d.at, 1), word::plus(s.pc, 1));
     let after = to.state;
     route_is(from.address, to.address, after)
 }
 
 // The way of a move, of a byte or, where it is wide, of a word.
-pub fn route_of(s: State, m: &[u8], mode: u8, at: u16, wide: bool) -> Route
+pub fn route_of(s: State, m: &[u8], d: Decoded, wide: bool) -> Route
     requires { ⌜ length (now m) ≡ 65536 ⌝ }
-    ensures { λ r. ⌜ r ≡ routeOf s (now (m .entry)) mode at wide ⌝ }
+    requires { ⌜ Faithful (now m) d ⌝ }
+    ensures { λ r. ⌜ r ≡ routeOf s (now (m .entry)) (d .mode) (d .at) wide ⌝ }
 {
-    if mode == IM_EX {
-        return immediate_to_extended(s, m, at, wide);
+    if d.mode == mode::IM_EX {
+        return immediate_to_extended(s, m, d.at, wide);
     }
-    if mode == EX_EX {
-        return extended_to_extended(s, m, at);
+    if d.mode == mode::EX_EX {
+        return extended_to_extended(s, m, d.at);
     }
-    if mode == IM_ID {
-        return immediate_to_indexed(s, m, at, wide);
+    if d.mode == mode::IM_ID {
+        return immediate_to_indexed(s, m, d, wide);
     }
-    if mode == EX_ID {
-        return extended_to_indexed(s, m, at);
+    if d.mode == mode::EX_ID {
+        return extended_to_indexed(s, m, d);
     }
-    if mode == ID_EX {
-        return indexed_to_extended(s, m, at);
+    if d.mode == mode::ID_EX {
+        return indexed_to_extended(s, m, d);
     }
-    indexed_to_indexed(s, m, at)
+    indexed_to_indexed(s, m, d)
 }

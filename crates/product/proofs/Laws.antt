@@ -96,7 +96,13 @@ complement-both g e m d n k s t u l =
 pub signed-product : SignedProduct
 signed-product x y hx hy = rw (← top-upper 15 x hx, ← top-upper 15 y hy) (go (leb 32768 x) (leb 32768 y) refl refl)
   where
-    go : (a b : Bool) → leb 32768 x ≡ a → leb 32768 y ≡ b → pick a (x + 4294901760) x * pick b (y + 4294901760) y % 4294967296 ≡ pick (exclusiveOr a b) ((4294967296 - pick a (65536 - x) x * pick b (65536 - y) y) % 4294967296) (pick a (65536 - x) x * pick b (65536 - y) y)
+    go :
+        (a b : Bool) →
+        leb 32768 x ≡ a →
+        leb 32768 y ≡ b →
+        pick a (x + 4294901760) x * pick b (y + 4294901760) y % 4294967296
+        ≡ pick (exclusiveOr a b) ((4294967296 - pick a (65536 - x) x * pick b (65536 - y) y) % 4294967296)
+        (pick a (65536 - x) x * pick b (65536 - y) y)
     go false false p q = mod-eq-of-lt (below 16 hx hy)
     go true false p q = complement-left 4294967296 (x + 4294901760) (65536 - x) y (omega arith) (below 16 (omega (arith, leb-true)) hy)
     go false true p q =

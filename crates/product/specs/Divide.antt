@@ -5,7 +5,7 @@ use Prim.Native.Nat.{ℕ, zero, suc, _+_, _-_, _*_, _/_, _%_, _^_}
 use mathlib.Core.Path.{_≡_}
 use mathlib.Core.Bool.{Bool, true, false, _&&_, _||_, not}
 use lib.Dec.{leb, eqb}
-use Rattle.word.specs.Word.{bitOf, pick}
+use Rattle.word.specs.Word.{bitOf, pick, longOf}
 use Rattle.state.specs.declared.Flags.{Flags}
 use Rattle.state.specs.Ccr.{setZ, setV, setC}
 use Rattle.alu.specs.Alu.{setNZVC, exclusiveOr}
@@ -46,7 +46,7 @@ divided f q r = record { quotient = q; remainder = r; flags = setNZVC f (bitOf 1
 abbrev pub edivOf : Flags → ℕ → ℕ → ℕ → Division
 edivOf f y d x =
     pick (noneSet 15 x) (byZero f y d)
-    (pick (leb 65536 ((y * 65536 + d) / x)) (tooLarge f y d) (divided f ((y * 65536 + d) / x) ((y * 65536 + d) % x)))
+    (pick (leb 65536 (longOf y d / x)) (tooLarge f y d) (divided f (longOf y d / x) (longOf y d % x)))
 
 -- Signed division, by sign and magnitude; k is the number of the sign bit.
 
@@ -74,7 +74,7 @@ idivsOf f d x = signedDivision f x d (bitOf 15 d) (magnitudeOf 15 d) x
 
 -- EDIVS: (Y : D) ÷ (X), signed
 abbrev pub edivsOf : Flags → ℕ → ℕ → ℕ → Division
-edivsOf f y d x = signedDivision f y d (bitOf 15 y) (magnitudeOf 31 (y * 65536 + d)) x
+edivsOf f y d x = signedDivision f y d (bitOf 15 y) (magnitudeOf 31 (longOf y d)) x
 
 -- Worked numbers, each proved under the same name in proofs/Laws.antt.
 

@@ -12,8 +12,8 @@ use Rattle.product.specs.declared.Long.{Long}
 use Rattle.product.specs.Divide.{magnitudeOf}
 
 -- a result of 32 bits, with the codes that it gives
-abbrev pub longOf : ℕ → (ℕ → Flags) → Long
-longOf r codes = record { value = r; flags = codes r }
+abbrev pub longResult : ℕ → (ℕ → Flags) → Long
+longResult r codes = record { value = r; flags = codes r }
 
 -- MUL: (A) × (B). C: R7, bit 7 of the result; no other code is affected
 abbrev pub mulWord : Flags → ℕ → ℕ → Word
@@ -25,7 +25,7 @@ productCodes f r = setC (setZ (setN f (bitOf 31 r)) (eqb r 0)) (bitOf 15 r)
 
 -- EMUL: (D) × (Y), unsigned
 abbrev pub emulLong : Flags → ℕ → ℕ → Long
-emulLong f d y = longOf (d * y) (productCodes f)
+emulLong f d y = longResult (d * y) (productCodes f)
 
 -- the product of two signed numbers of 16 bits, as 32 bits: each is extended to 32, and the product taken modulo 2 to the 32nd
 abbrev pub signedProduct : ℕ → ℕ → ℕ
@@ -33,7 +33,7 @@ signedProduct x y = extend16 x * extend16 y % 4294967296
 
 -- EMULS: (D) × (Y), signed
 abbrev pub emulsLong : Flags → ℕ → ℕ → Long
-emulsLong f d y = longOf (signedProduct d y) (productCodes f)
+emulsLong f d y = longResult (signedProduct d y) (productCodes f)
 
 -- The codes of EMACS; I is the intermediate result, M the accumulator before, R after.
 -- V: M31 · I31 · R̄31 + M̄31 · Ī31 · R31. C: M15 · I15 + I15 · R̄15 + R̄15 · M15, a carry from bit 15
@@ -42,7 +42,7 @@ emacsCodes f m i r = setNZVC f (bitOf 31 r) (eqb r 0) (sumOverflow 31 m i r) (ca
 
 -- EMACS: the signed product of the two operands, and the accumulator
 abbrev pub emacsLong : Flags → ℕ → ℕ → ℕ → Long
-emacsLong f x y m = longOf ((m + signedProduct x y) % 4294967296) (emacsCodes f m (signedProduct x y))
+emacsLong f x y m = longResult ((m + signedProduct x y) % 4294967296) (emacsCodes f m (signedProduct x y))
 
 -- The laws, each proved under the same name in proofs/Laws.antt.
 

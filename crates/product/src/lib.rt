@@ -5,7 +5,8 @@ ghost use mathlib.Core.Path.{_≡_};
 ghost use Prim.Native.Nat.{_<_, _≤_};
 ghost use Rattle.word.specs.Word.{bitOf};
 ghost use Rattle.product.specs.Product.{mulWord, productCodes, emulLong, signedProduct, emulsLong, emacsLong};
-ghost use Rattle.product.specs.Divide.{unsigned, idivOf, fdivOf, byZero, tooLarge, divided, edivOf, magnitudeOf, signedOf, signedDivision, idivsOf, edivsOf};
+ghost use Rattle.product.specs.Divide.{unsigned, idivOf, fdivOf, byZero, tooLarge, divided, edivOf};
+ghost use Rattle.product.specs.Divide.{magnitudeOf, signedOf, signedDivision, idivsOf, edivsOf};
 
 // 32 bits: Y : D, or four bytes of memory.
 pub struct Long {
@@ -164,7 +165,7 @@ pub fn ediv(f: Flags, y: u16, d: u16, x: u16) -> Division
     if x == 0 {
         return by_zero(f, y, d);
     }
-    let n = y as u32 * 65536 + d as u32;
+    let n = word::long(y, d);
     let q = n / x as u32;
     if q >= 65536 {
         return too_large(f, y, d);
@@ -225,6 +226,6 @@ pub fn idivs(f: Flags, d: u16, x: u16) -> Division
 pub fn edivs(f: Flags, y: u16, d: u16, x: u16) -> Division
     ensures { λ r. ⌜ r ≡ edivsOf f y d x ⌝ }
 {
-    let n = y as u32 * 65536 + d as u32;
+    let n = word::long(y, d);
     signed_division(f, y, d, alu::top_16(y), magnitude_32(n), x)
 }

@@ -9,43 +9,43 @@ use lib.ListN.{length, getD, take}
 use lib.Seq.{take-all, getD-take}
 use borrow.Author.Tests.{lt-ltb}
 use Rattle.word.specs.Word.{pick, plusW, minusW}
-use Rattle.memory.specs.Memory.{byteAt, committed, storeNine, runOf as bytesOf}
+use Rattle.memory.specs.Memory.{byteAt, committed, storeNine, bytesStored, AreBytes}
 use Rattle.memory.proofs.Laws.{store-keeps, store-none, stores-exactly}
 use Rattle.state.specs.declared.State.{State}
 use Rattle.state.specs.State.{withClock}
-use Rattle.schedule.specs.Schedule.{lineAt}
-use Rattle.flow.specs.Stack.{frameOf}
-use Rattle.machine.specs.Turn.{turnOf}
-use Rattle.machine.specs.Bounds.{AreBytes}
-use Rattle.machine.specs.Step.{turnState, turnMemory}
-use Rattle.promises.specs.Words.{Words}
-use Rattle.promises.specs.Steps.{turnAt, nextState, nextMemory, afterSteps}
+use Rattle.stack.specs.Stack.{frameOf}
+use Rattle.turn.specs.Turn.{turnOf}
+use Rattle.run.specs.Given.{Given, lineIn}
+use Rattle.run.specs.Step.{turnState, turnMemory}
+use Rattle.run.specs.Run.{turnAt, nextState, nextMemory}
+use Rattle.walk.specs.Words.{Words}
+use Rattle.promises.specs.Steps.{afterSteps}
 use Rattle.promises.specs.Masks.{XirqEnteredAt, XStaysClearAlongEveryRun}
 use Rattle.promises.proofs.Words.{every-step-keeps-words, every-boundary-has-words}
 use Rattle.promises.proofs.Masks.{x-stays-clear, only-wai-waits, a-wait-keeps}
 
 -- the boundary after n + 1 steps is one step on from that after n
-pub record OneOn (n : ℕ) (s : State) (m cycles lines : List ℕ) : Type 0 where
-  pub state : afterSteps (suc n) cycles lines s m .state ≡ nextState cycles lines (afterSteps n cycles lines s m .state) (afterSteps n cycles lines s m .memory)
-  pub memory : afterSteps (suc n) cycles lines s m .memory ≡ nextMemory cycles lines (afterSteps n cycles lines s m .state) (afterSteps n cycles lines s m .memory)
+pub record OneOn (n : ℕ) (s : State) (m : List ℕ) (given : Given) : Type 0 where
+  pub state : afterSteps (suc n) given s m .state ≡ nextState given (afterSteps n given s m .state) (afterSteps n given s m .memory)
+  pub memory : afterSteps (suc n) given s m .memory ≡ nextMemory given (afterSteps n given s m .state) (afterSteps n given s m .memory)
   pub cycles-are :
-      afterSteps (suc n) cycles lines s m .cycles
-      ≡ afterSteps n cycles lines s m .cycles
-      + turnAt cycles lines (afterSteps n cycles lines s m .state) (afterSteps n cycles lines s m .memory) .effect .cost
+      afterSteps (suc n) given s m .cycles
+      ≡ afterSteps n given s m .cycles
+      + turnAt given (afterSteps n given s m .state) (afterSteps n given s m .memory) .effect .cost
 
-pub one-on : (n : ℕ) (s : State) (m cycles lines : List ℕ) → OneOn n s m cycles lines
+pub one-on : (n : ℕ) (s : State) (m : List ℕ) (given : Given) → OneOn n s m given
 unfolding afterSteps
-one-on zero s m cycles lines = record { state = refl; memory = refl; cycles-are = omega arith }
-one-on (suc n) s m cycles lines =
-    let rest = one-on n (nextState cycles lines s m) (nextMemory cycles lines s m) cycles lines in
+one-on zero s m given = record { state = refl; memory = refl; cycles-are = omega arith }
+one-on (suc n) s m given =
+    let rest = one-on n (nextState given s m) (nextMemory given s m) given in
     record { state = rest .state; memory = rest .memory; cycles-are = omega (arith, rest .cycles-are) }
 
 -- the clock at a boundary is that at the start and the cycles used since
-pub clock-at : (n : ℕ) (s : State) (m cycles lines : List ℕ) → afterSteps n cycles lines s m .state .clock ≡ s .clock + afterSteps n cycles lines s m .cycles
+pub clock-at : (n : ℕ) (s : State) (m : List ℕ) (given : Given) → afterSteps n given s m .state .clock ≡ s .clock + afterSteps n given s m .cycles
 unfolding afterSteps
-clock-at zero s m cycles lines = omega arith
-clock-at (suc n) s m cycles lines =
-    let rest = clock-at n (nextState cycles lines s m) (nextMemory cycles lines s m) cycles lines in
+clock-at zero s m given = omega arith
+clock-at (suc n) s m given =
+    let rest = clock-at n (nextState given s m) (nextMemory given s m) given in
     omega (arith, rest)
 
 -- the nine bytes at SP are the registers
@@ -53,7 +53,14 @@ abbrev pub Framed : State → List ℕ → Type 0
 Framed s m = (j : ℕ) → j < 9 → byteAt m (plusW (s .sp) j) ≡ getD (frameOf s) j 0
 
 -- nine bytes that were stored are there
-pub nine-stored : (m : List ℕ) (a : ℕ) (bs : List ℕ) → length m ≡ 65536 → a < 65536 → length bs ≡ 9 → (j : ℕ) → j < 9 → byteAt (committed m (storeNine a bs)) (plusW a j) ≡ getD bs j 0
+pub nine-stored :
+    (m : List ℕ) (a : ℕ) (bs : List ℕ) →
+    length m ≡ 65536 →
+    a < 65536 →
+    length bs ≡ 9 →
+    (j : ℕ) →
+    j < 9 →
+    byteAt (committed m (storeNine a bs)) (plusW a j) ≡ getD bs j 0
 nine-stored m a bs whole inside nine j h =
     let back : minusW (plusW a j) a ≡ j = omega (arith, inside, h) in
     let all : length (take 9 bs) ≡ 9 = ap length (take-all 9 bs (omega (arith, nine))) ∙ nine in
@@ -68,7 +75,7 @@ pub record Sound (s : State) (m : List ℕ) : Type 0 where
   pub words : Words s
   pub bytes : AreBytes m
   pub whole : length m ≡ 65536
-  pub framed : s .waiting ≡ true → Framed s m
+  pub framed : s .standing .waiting ≡ true → Framed s m
 
 -- a state and a memory that are the same, but for the clock
 framed-kept : (s t : State) (m m′ : List ℕ) (clock : ℕ) → t ≡ s → m′ ≡ m → Framed s m → Framed (withClock t clock) m′
@@ -85,11 +92,11 @@ sound-next s m line here =
     record {
       words = next .0;
       bytes = next .1;
-      whole = store-keeps m (turnOf s m line .effect .store .at) (bytesOf (turnOf s m line .effect .store)) ∙ here .whole;
-      framed = λ waits. framed (s .waiting) refl waits;
+      whole = store-keeps m (turnOf s m line .effect .store .at) (bytesStored (turnOf s m line .effect .store)) ∙ here .whole;
+      framed = λ waits. framed (s .standing .waiting) refl waits;
     }
   where
-    framed : (b : Bool) → s .waiting ≡ b → turnOf s m line .effect .state .waiting ≡ true → Framed (turnState s m line) (turnMemory s m line)
+    framed : (b : Bool) → s .standing .waiting ≡ b → turnOf s m line .effect .state .standing .waiting ≡ true → Framed (turnState s m line) (turnMemory s m line)
     framed false was waits j h =
         let left = every-step-keeps-words s m line (here .words) (here .bytes) in
         rw (only-wai-waits s m line was waits)
@@ -99,28 +106,28 @@ sound-next s m line here =
         framed-kept s (turnOf s m line .effect .state) m (turnMemory s m line) (turnState s m line .clock) (kept .0)
         (ap (committed m) (kept .1) ∙ store-none m 0) (here .framed was) j h
 
-pub sound-at : (n : ℕ) (s : State) (m cycles lines : List ℕ) → Sound s m → Sound (afterSteps n cycles lines s m .state) (afterSteps n cycles lines s m .memory)
+pub sound-at : (n : ℕ) (s : State) (m : List ℕ) (given : Given) → Sound s m → Sound (afterSteps n given s m .state) (afterSteps n given s m .memory)
 unfolding afterSteps
-sound-at zero s m cycles lines here = here
-sound-at (suc n) s m cycles lines here =
-    sound-at n (nextState cycles lines s m) (nextMemory cycles lines s m) cycles lines (sound-next s m (lineAt cycles lines (s .clock)) here)
+sound-at zero s m given here = here
+sound-at (suc n) s m given here =
+    sound-at n (nextState given s m) (nextMemory given s m) given (sound-next s m (lineIn given (s .clock)) here)
 
 -- X, from a boundary where it is clear on
 x-clear-at :
-    (s : State) (m cycles lines : List ℕ) (k d : ℕ) →
-    afterSteps k cycles lines s m .state .flags .x ≡ false →
-    ((j : ℕ) → k ≤ j → j < k + d → XirqEnteredAt j s m cycles lines → ⊥) →
-    afterSteps (k + d) cycles lines s m .state .flags .x ≡ false
-x-clear-at s m cycles lines k zero clear none = ap (λ (j : ℕ). afterSteps j cycles lines s m .state .flags .x) (omega arith) ∙ clear
-x-clear-at s m cycles lines k (suc d) clear none =
-    let before = x-clear-at s m cycles lines k d clear (λ j low high. none j low (omega (arith, high))) in
+    (s : State) (m : List ℕ) (given : Given) (k d : ℕ) →
+    afterSteps k given s m .state .flags .x ≡ false →
+    ((j : ℕ) → k ≤ j → j < k + d → XirqEnteredAt j s m given → ⊥) →
+    afterSteps (k + d) given s m .state .flags .x ≡ false
+x-clear-at s m given k zero clear none = ap (λ (j : ℕ). afterSteps j given s m .state .flags .x) (omega arith) ∙ clear
+x-clear-at s m given k (suc d) clear none =
+    let before = x-clear-at s m given k d clear (λ j low high. none j low (omega (arith, high))) in
     let other = none (k + d) (omega arith) (omega arith) in
-    ap (λ (j : ℕ). afterSteps j cycles lines s m .state .flags .x) (omega arith)
-    ∙ ap (λ (u : State). u .flags .x) (one-on (k + d) s m cycles lines .state)
-    ∙ x-stays-clear (afterSteps (k + d) cycles lines s m .state) (afterSteps (k + d) cycles lines s m .memory) _ other before
+    ap (λ (j : ℕ). afterSteps j given s m .state .flags .x) (omega arith)
+    ∙ ap (λ (u : State). u .flags .x) (one-on (k + d) s m given .state)
+    ∙ x-stays-clear (afterSteps (k + d) given s m .state) (afterSteps (k + d) given s m .memory) _ other before
 
 pub x-stays-clear-along-every-run : XStaysClearAlongEveryRun
-x-stays-clear-along-every-run s m cycles lines k n h clear none =
+x-stays-clear-along-every-run s m given k n h clear none =
     let is : k + (n - k) ≡ n = omega (arith, h) in
-    ap (λ (j : ℕ). afterSteps j cycles lines s m .state .flags .x) (sym is)
-    ∙ x-clear-at s m cycles lines k (n - k) clear (λ j low high. none j low (omega (arith, high, h)))
+    ap (λ (j : ℕ). afterSteps j given s m .state .flags .x) (sym is)
+    ∙ x-clear-at s m given k (n - k) clear (λ j low high. none j low (omega (arith, high, h)))

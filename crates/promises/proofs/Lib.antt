@@ -1,12 +1,8 @@
-pub mod Results
-pub mod Registers
 pub mod Words
 pub mod Store
 pub mod Outcome
 pub mod Steps
-pub mod Bench
 pub mod Masks
 pub mod Boundaries
 pub mod Warning
 pub mod Always
-pub mod Bound

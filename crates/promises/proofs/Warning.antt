@@ -8,25 +8,24 @@ use mathlib.Core.List.{List}
 use lib.ListN.{length, getD}
 use borrow.Author.Tests.{eq-eqb}
 use Rattle.word.specs.Word.{pick, bitOf, plusW, minusW}
-use Rattle.memory.specs.Memory.{byteAt, wordAt, committed}
+use Rattle.memory.specs.Memory.{byteAt, wordAt, committed, AreBytes}
 use Rattle.memory.proofs.Laws.{store-none}
 use Rattle.state.specs.declared.State.{State}
 use Rattle.state.specs.declared.Flags.{Flags}
-use Rattle.schedule.specs.Schedule.{lineAt}
-use Rattle.flow.specs.Stack.{frameOf, interruptEffect}
+use Rattle.stack.specs.Stack.{frameOf, interruptEffect}
 use Rattle.machine.specs.declared.Reply.the-variants.{Done}
-use Rattle.machine.specs.declared.Turn.{Turn}
 use Rattle.machine.specs.Names.{numberOf, lineVector}
-use Rattle.machine.specs.Turn.{allowedLine, entryEffect, wakeEffect, turnIs, turnOf}
-use Rattle.machine.specs.Bounds.{AreBytes}
-use Rattle.machine.specs.Step.{resetOf}
-use Rattle.machine.specs.Run.{runOf}
-use Rattle.machine.proofs.Bounds.{every-step-costs}
-use Rattle.machine.proofs.Run.{number-zero}
-use Rattle.promises.specs.Steps.{turnAt, afterSteps, IsOfSteps}
+use Rattle.machine.specs.Reset.{resetOf}
+use Rattle.machine.proofs.Laws.{number-zero}
+use Rattle.turn.specs.declared.Turn.{Turn}
+use Rattle.turn.specs.Turn.{allowedLine, entryEffect, wakeEffect, turnIs, turnOf}
+use Rattle.walk.proofs.Bounds.{every-step-costs}
+use Rattle.run.specs.Given.{Given, lineIn}
+use Rattle.run.specs.Run.{runOf, turnAt}
+use Rattle.run.proofs.Refusals.{is-free}
+use Rattle.promises.specs.Steps.{afterSteps, IsOfSteps}
 use Rattle.promises.specs.Warning.{stateAt, memoryAt, StaysUp, FirstFrom, NoStopBefore, Warned, TheWarningIsNeverLate}
-use Rattle.promises.proofs.Registers.{Below, word-at}
-use Rattle.promises.proofs.Steps.{is-free}
+use Rattle.walk.proofs.Registers.{Below, word-at}
 use Rattle.promises.proofs.Boundaries.{one-on, clock-at, Framed, nine-stored, Sound, sound-at}
 
 -- XIRQ up and X clear: line 0 is to be entered
@@ -35,7 +34,7 @@ unfolding allowedLine
 line-zero f line up clear = rw (up, clear)
 
 -- and so the turn is the end of a wait, or an entry
-xirq-turn : (s : State) (m : List ℕ) (line : ℕ) → allowedLine (s .flags) line ≡ 0 → turnOf s m line ≡ pick (s .waiting) (turnIs Done (wakeEffect s m 0)) (turnIs Done (entryEffect s m 0))
+xirq-turn : (s : State) (m : List ℕ) (line : ℕ) → allowedLine (s .flags) line ≡ 0 → turnOf s m line ≡ pick (s .standing .waiting) (turnIs Done (wakeEffect s m 0)) (turnIs Done (entryEffect s m 0))
 unfolding turnOf
 xirq-turn s m line zero-is = rw zero-is
 
@@ -73,9 +72,9 @@ entered s m whole =
     }
 
 xirq-enters : (s : State) (m : List ℕ) (line : ℕ) → Sound s m → allowedLine (s .flags) line ≡ 0 → Entered s m (turnOf s m line)
-xirq-enters s m line here zero-is = rw (xirq-turn s m line zero-is) (go (s .waiting) refl)
+xirq-enters s m line here zero-is = rw (xirq-turn s m line zero-is) (go (s .standing .waiting) refl)
   where
-    go : (b : Bool) → s .waiting ≡ b → Entered s m (pick b (turnIs Done (wakeEffect s m 0)) (turnIs Done (entryEffect s m 0)))
+    go : (b : Bool) → s .standing .waiting ≡ b → Entered s m (pick b (turnIs Done (wakeEffect s m 0)) (turnIs Done (entryEffect s m 0)))
     go true waits = woken s m (here .framed waits)
     go false waits = entered s m (here .whole)
 
@@ -99,62 +98,62 @@ reset-sound m bytes whole =
     }
 
 -- the same of a boundary, given by equations
-same-turn : (s s′ : State) (m m′ cycles lines : List ℕ) → s ≡ s′ → m ≡ m′ → turnAt cycles lines s m ≡ turnAt cycles lines s′ m′
-same-turn s s′ m m′ cycles lines es em = λ i. turnAt cycles lines (es i) (em i)
+same-turn : (s s′ : State) (m m′ : List ℕ) (given : Given) → s ≡ s′ → m ≡ m′ → turnAt given s m ≡ turnAt given s′ m′
+same-turn s s′ m m′ given es em = λ i. turnAt given (es i) (em i)
 
-module _ (T n : ℕ) (m cycles lines : List ℕ) (bytes : AreBytes m) (whole : length m ≡ 65536) (up : StaysUp T cycles lines) (first : FirstFrom T n m cycles lines) (clear : stateAt n m cycles lines .flags .x ≡ false) (on : NoStopBefore n m cycles lines) where
-  here : (k : ℕ) → Sound (stateAt k m cycles lines) (memoryAt k m cycles lines)
-  here k = sound-at k (resetOf m) m cycles lines (reset-sound m bytes whole)
+module _ (T n : ℕ) (m : List ℕ) (given : Given) (bytes : AreBytes m) (whole : length m ≡ 65536) (up : StaysUp T given) (first : FirstFrom T n m given) (clear : stateAt n m given .flags .x ≡ false) (on : NoStopBefore n m given) where
+  here : (k : ℕ) → Sound (stateAt k m given) (memoryAt k m given)
+  here k = sound-at k (resetOf m) m given (reset-sound m bytes whole)
 
   turn : ℕ → Turn
-  turn k = turnAt cycles lines (stateAt k m cycles lines) (memoryAt k m cycles lines)
+  turn k = turnAt given (stateAt k m given) (memoryAt k m given)
 
   -- a boundary before the first from T on is followed by T + 12
-  soon : (k : ℕ) → k < n → stateAt k m cycles lines .clock + turn k .effect .cost ≤ T + 12
+  soon : (k : ℕ) → k < n → stateAt k m given .clock + turn k .effect .cost ≤ T + 12
   unfolding turn
   soon k h =
       let early = first .1 k h in
-      let most = every-step-costs (stateAt k m cycles lines) (memoryAt k m cycles lines) _ (here k .bytes) (number-zero _ (on k h)) .1 in
+      let most = every-step-costs (stateAt k m given) (memoryAt k m given) _ (here k .bytes) (number-zero _ (on k h)) .1 in
       omega (arith, early, most)
 
   -- the first boundary from T on comes by T + 12
-  by-twelve : (k : ℕ) → k ≡ n → stateAt n m cycles lines .clock ≤ T + 12
+  by-twelve : (k : ℕ) → k ≡ n → stateAt n m given .clock ≤ T + 12
   unfolding turn afterSteps
   by-twelve zero e =
-      let at : 0 ≡ stateAt n m cycles lines .clock = ap (λ (j : ℕ). stateAt j m cycles lines .clock) e in
+      let at : 0 ≡ stateAt n m given .clock = ap (λ (j : ℕ). stateAt j m given .clock) e in
       omega (arith, at)
   by-twelve (suc k) e =
-      let at = ap (λ (j : ℕ). stateAt j m cycles lines .clock) e in
-      let next = ap (λ (s : State). s .clock) (one-on k (resetOf m) m cycles lines .state) in
+      let at = ap (λ (j : ℕ). stateAt j m given .clock) e in
+      let next = ap (λ (s : State). s .clock) (one-on k (resetOf m) m given .state) in
       let then = soon k (omega (arith, e)) in
       omega (arith, at, next, then)
 
-  is-zero : allowedLine (stateAt n m cycles lines .flags) (lineAt cycles lines (stateAt n m cycles lines .clock)) ≡ 0
+  is-zero : allowedLine (stateAt n m given .flags) (lineIn given (stateAt n m given .clock)) ≡ 0
   is-zero =
       let late = by-twelve n refl in
-      line-zero (stateAt n m cycles lines .flags) _ (up (stateAt n m cycles lines .clock) (first .0) (omega (arith, late))) clear
+      line-zero (stateAt n m given .flags) _ (up (stateAt n m given .clock) (first .0) (omega (arith, late))) clear
 
-  enters : Entered (stateAt n m cycles lines) (memoryAt n m cycles lines) (turn n)
+  enters : Entered (stateAt n m given) (memoryAt n m given) (turn n)
   unfolding turn
-  enters = xirq-enters (stateAt n m cycles lines) (memoryAt n m cycles lines) _ (here n) is-zero
+  enters = xirq-enters (stateAt n m given) (memoryAt n m given) _ (here n) is-zero
 
   -- no boundary up to that one stops the run, and each of these steps ends by T + 21
-  reaches : (k : ℕ) → k ≤ n → (numberOf (turn k .reply) ≡ 0) × (stateAt k m cycles lines .clock + turn k .effect .cost ≤ T + 21)
+  reaches : (k : ℕ) → k ≤ n → (numberOf (turn k .reply) ≡ 0) × (stateAt k m given .clock + turn k .effect .cost ≤ T + 21)
   unfolding turn
   reaches k h = go (decLt k n)
     where
-      go : Dec (k < n) → (numberOf (turn k .reply) ≡ 0) × (stateAt k m cycles lines .clock + turn k .effect .cost ≤ T + 21)
+      go : Dec (k < n) → (numberOf (turn k .reply) ≡ 0) × (stateAt k m given .clock + turn k .effect .cost ≤ T + 21)
       go (yes l) = let then = soon k l in (on k l, omega (arith, then))
       go (no l) = last (omega (arith, h, l))
         where
-          last : k ≡ n → (numberOf (turn k .reply) ≡ 0) × (stateAt k m cycles lines .clock + turn k .effect .cost ≤ T + 21)
+          last : k ≡ n → (numberOf (turn k .reply) ≡ 0) × (stateAt k m given .clock + turn k .effect .cost ≤ T + 21)
           last e =
               let late = by-twelve n refl in
               let most = enters .cost in
               rw e (enters .done, omega (arith, late, most))
 
   -- so the run takes the step at that boundary
-  takes : (budget : ℕ) → T + 21 ≤ budget → (steps : ℕ) → IsOfSteps steps (resetOf m) m cycles lines budget (runOf (resetOf m) m cycles lines budget) → n < steps
+  takes : (budget : ℕ) → T + 21 ≤ budget → (steps : ℕ) → IsOfSteps steps (resetOf m) m given budget (runOf (resetOf m) m given budget) → n < steps
   unfolding turn
   takes budget room steps is = go (decLt n steps)
     where
@@ -162,17 +161,17 @@ module _ (T n : ℕ) (m cycles lines : List ℕ) (bytes : AreBytes m) (whole : l
       go (yes l) = l
       go (no l) =
           let at = reaches steps (omega (arith, l)) in
-          let same = same-turn _ _ _ _ cycles lines (is .state) (is .memory) in
+          let same = same-turn _ _ _ _ given (is .state) (is .memory) in
           let reply = is .reply ∙ ap (λ (t : Turn). numberOf (t .reply)) same ∙ at .0 in
           let cost = ap (λ (t : Turn). t .effect .cost) same in
-          let clock = clock-at steps (resetOf m) m cycles lines in
+          let clock = clock-at steps (resetOf m) m given in
           let short = is .spent reply in
           absurd (omega (arith, short, cost, is .used, clock, at .1, room))
 
-  warned : (budget : ℕ) → T + 21 ≤ budget → Warned T n m cycles lines budget
+  warned : (budget : ℕ) → T + 21 ≤ budget → Warned T n m given budget
   unfolding turn
   warned budget room =
-      let next = one-on n (resetOf m) m cycles lines in
+      let next = one-on n (resetOf m) m given in
       let end = reaches n (omega arith) .1 in
       let at = ap (λ (s : State). s .clock) (next .state) in
       record {
@@ -183,12 +182,12 @@ module _ (T n : ℕ) (m cycles lines : List ℕ) (bytes : AreBytes m) (whole : l
         x = ap (λ (s : State). s .flags .x) (next .state) ∙ enters .x;
         i = ap (λ (s : State). s .flags .i) (next .state) ∙ enters .i;
         frame = λ j h.
-            ap (λ (s : State). byteAt (memoryAt (suc n) m cycles lines) (plusW (s .sp) j)) (next .state)
-            ∙ ap (λ (l : List ℕ). byteAt l (plusW (turnAt cycles lines (stateAt n m cycles lines) (memoryAt n m cycles lines) .effect .state .sp) j)) (next .memory)
+            ap (λ (s : State). byteAt (memoryAt (suc n) m given) (plusW (s .sp) j)) (next .state)
+            ∙ ap (λ (l : List ℕ). byteAt l (plusW (turnAt given (stateAt n m given) (memoryAt n m given) .effect .state .sp) j)) (next .memory)
             ∙ enters .frame j h;
       }
 
 pub the-warning-is-never-late : TheWarningIsNeverLate
-the-warning-is-never-late T n m cycles lines budget bytes free up first clear on room =
-    let whole = is-free (resetOf m) m cycles lines budget free .whole in
-    warned T n m cycles lines bytes whole up first clear on budget room
+the-warning-is-never-late T n m given budget bytes free up first clear on room =
+    let whole = is-free (resetOf m) m given budget free .whole in
+    warned T n m given bytes whole up first clear on budget room

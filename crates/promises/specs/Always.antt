@@ -4,25 +4,26 @@ use Prim.Native.Nat.{ℕ, _≤_}
 use mathlib.Core.Path.{_≡_}
 use mathlib.Core.List.{List}
 use Rattle.state.specs.declared.State.{State}
-use Rattle.machine.specs.Bounds.{AreBytes}
-use Rattle.machine.specs.End.{endsHere}
-use Rattle.machine.specs.Step.{stepOf}
-use Rattle.machine.specs.Run.{runRefusal, runOf}
-use Rattle.promises.specs.Words.{Words}
+use Rattle.memory.specs.Memory.{AreBytes}
+use Rattle.run.specs.Given.{Given}
+use Rattle.run.specs.End.{endsHere}
+use Rattle.run.specs.Step.{stepOf}
+use Rattle.run.specs.Run.{runRefusal, runOf}
+use Rattle.walk.specs.Words.{Words}
 use Rattle.promises.specs.Steps.{IsOfSteps}
 
 -- every run has one of document 01's replies, 0 to 5
 abbrev pub EveryRunReplies : Type 0
-EveryRunReplies = (s : State) (m cycles lines : List ℕ) (budget : ℕ) → runOf s m cycles lines budget .reply ≤ 5
+EveryRunReplies = (s : State) (m : List ℕ) (given : Given) (budget : ℕ) → runOf s m given budget .reply ≤ 5
 
 -- A run takes no more steps than it may spend cycles. So it visits at most one boundary more than that: those before its steps, and the
 -- last.
 abbrev pub EveryRunEnds : Type 0
 EveryRunEnds =
-    (s : State) (m cycles lines : List ℕ) (budget steps : ℕ) →
+    (s : State) (m : List ℕ) (given : Given) (budget steps : ℕ) →
     Words s →
     AreBytes m →
-    IsOfSteps steps s m cycles lines budget (runOf s m cycles lines budget) →
+    IsOfSteps steps s m given budget (runOf s m given budget) →
     steps ≤ budget
 
 -- a step that is not done, refused or stopped, leaves all as it was, and uses no cycle
@@ -35,6 +36,6 @@ AStepNotDoneChangesNothing =
 -- a run that is refused leaves all as it was, and uses no cycle
 abbrev pub ARefusedRunChangesNothing : Type 0
 ARefusedRunChangesNothing =
-    (s : State) (m cycles lines : List ℕ) (budget : ℕ) →
-    (runRefusal s m cycles lines budget ≡ 0 → ⊥) →
-    runOf s m cycles lines budget ≡ endsHere (runRefusal s m cycles lines budget) s m
+    (s : State) (m : List ℕ) (given : Given) (budget : ℕ) →
+    (runRefusal s m given budget ≡ 0 → ⊥) →
+    runOf s m given budget ≡ endsHere (runRefusal s m given budget) s m

@@ -6,9 +6,9 @@ use mathlib.Core.Bool.{true, false}
 use mathlib.Core.List.{List}
 use Rattle.memory.specs.Memory.{noStore, storeNine}
 use Rattle.state.specs.declared.State.{State}
-use Rattle.schedule.specs.Schedule.{lineAt}
-use Rattle.flow.specs.Stack.{frameOf}
-use Rattle.machine.specs.Turn.{allowedLine, turnOf}
+use Rattle.stack.specs.Stack.{frameOf}
+use Rattle.turn.specs.Turn.{allowedLine, turnOf}
+use Rattle.run.specs.Given.{Given, lineIn}
 use Rattle.promises.specs.Steps.{afterSteps}
 
 -- X, once it is clear, stays clear, unless the step is an entry or the end of a wait by line 0, XIRQ
@@ -20,25 +20,25 @@ XStaysClear =
     turnOf s m line .effect .state .flags .x ≡ false
 
 -- XIRQ is entered, or ends a wait, at boundary k of a run
-abbrev pub XirqEnteredAt : ℕ → State → List ℕ → List ℕ → List ℕ → Type 0
-XirqEnteredAt k s m cycles lines =
-    allowedLine (afterSteps k cycles lines s m .state .flags) (lineAt cycles lines (afterSteps k cycles lines s m .state .clock)) ≡ 0
+abbrev pub XirqEnteredAt : ℕ → State → List ℕ → Given → Type 0
+XirqEnteredAt k s m given =
+    allowedLine (afterSteps k given s m .state .flags) (lineIn given (afterSteps k given s m .state .clock)) ≡ 0
 
 -- and so along every run: from boundary k, where X is clear, to boundary n, if XIRQ is entered at none between them
 abbrev pub XStaysClearAlongEveryRun : Type 0
 XStaysClearAlongEveryRun =
-    (s : State) (m cycles lines : List ℕ) (k n : ℕ) →
+    (s : State) (m : List ℕ) (given : Given) (k n : ℕ) →
     k ≤ n →
-    afterSteps k cycles lines s m .state .flags .x ≡ false →
-    ((j : ℕ) → k ≤ j → j < n → XirqEnteredAt j s m cycles lines → ⊥) →
-    afterSteps n cycles lines s m .state .flags .x ≡ false
+    afterSteps k given s m .state .flags .x ≡ false →
+    ((j : ℕ) → k ≤ j → j < n → XirqEnteredAt j s m given → ⊥) →
+    afterSteps n given s m .state .flags .x ≡ false
 
 -- where a step makes the machine wait, it has stored the frame of the waiting machine's registers at its SP, as WAI does
 abbrev pub OnlyWaiWaits : Type 0
 OnlyWaiWaits =
     (s : State) (m : List ℕ) (line : ℕ) →
-    s .waiting ≡ false →
-    turnOf s m line .effect .state .waiting ≡ true →
+    s .standing .waiting ≡ false →
+    turnOf s m line .effect .state .standing .waiting ≡ true →
     turnOf s m line .effect .store
     ≡ storeNine (turnOf s m line .effect .state .sp) (frameOf (turnOf s m line .effect .state))
 
@@ -46,6 +46,6 @@ OnlyWaiWaits =
 abbrev pub AWaitKeeps : Type 0
 AWaitKeeps =
     (s : State) (m : List ℕ) (line : ℕ) →
-    s .waiting ≡ true →
-    turnOf s m line .effect .state .waiting ≡ true →
+    s .standing .waiting ≡ true →
+    turnOf s m line .effect .state .standing .waiting ≡ true →
     (turnOf s m line .effect .state ≡ s) × (turnOf s m line .effect .store ≡ noStore)

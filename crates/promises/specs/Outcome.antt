@@ -3,8 +3,8 @@
 --     Reply::number    OneNumber
 --     Machine::new     OneNew
 --     Machine::reset   OneReset
---     Machine::step    OneStep
---     Machine::run     OneRun
+--     run::step        OneStep
+--     run::run         OneRun
 --     records::run     OneRunOverRecords
 -- The three functions of the static library have theirs, `OneOutcome`, in crates/guide/specs/Doors.antt.
 use Prim.Native.Nat.{ℕ}
@@ -13,12 +13,14 @@ use mathlib.Core.List.{List}
 use Rattle.state.specs.declared.State.{State}
 use Rattle.machine.specs.declared.Reply.{Reply}
 use Rattle.machine.specs.declared.Machine.{Machine}
-use Rattle.machine.specs.declared.Answer.{Answer}
 use Rattle.machine.specs.declared.Started.{Started}
 use Rattle.machine.specs.Names.{numberOf}
-use Rattle.machine.specs.End.{End, Ends}
-use Rattle.machine.specs.Step.{stepOf, resetState, resetReply, resetOf}
-use Rattle.machine.specs.Run.{runOf}
+use Rattle.machine.specs.Reset.{resetState, resetReply, resetOf}
+use Rattle.run.specs.declared.Answer.{Answer}
+use Rattle.run.specs.Given.{Given, givenIs}
+use Rattle.run.specs.End.{End, Ends}
+use Rattle.run.specs.Step.{stepOf}
+use Rattle.run.specs.Run.{runOf}
 use Rattle.records.specs.declared.Record.{Record}
 use Rattle.records.specs.Records.{cyclesOf, linesOf}
 
@@ -43,7 +45,7 @@ abbrev pub OneStep : Type 0
 OneStep = (s : State) (m : List ℕ) (line : ℕ) → OneAnswer (stepOf s m line)
 
 abbrev pub OneRun : Type 0
-OneRun = (s : State) (m cycles lines : List ℕ) (budget : ℕ) → OneAnswer (runOf s m cycles lines budget)
+OneRun = (s : State) (m : List ℕ) (given : Given) (budget : ℕ) → OneAnswer (runOf s m given budget)
 
 abbrev pub OneRunOverRecords : Type 0
-OneRunOverRecords = (s : State) (m : List ℕ) (rs : List Record) (budget : ℕ) → OneAnswer (runOf s m (cyclesOf rs) (linesOf rs) budget)
+OneRunOverRecords = (s : State) (m : List ℕ) (rs : List Record) (budget : ℕ) → OneAnswer (runOf s m (givenIs (cyclesOf rs) (linesOf rs)) budget)

@@ -5,12 +5,11 @@ use mathlib.Core.List.{List}
 use lib.Dec.{ltb}
 use lib.ListN.{length, getD}
 use Rattle.word.specs.Word.{pick, minusW}
-use Rattle.memory.specs.Memory.{byteAt, runOf}
+use Rattle.memory.specs.Memory.{byteAt, bytesStored, AreBytes}
 use Rattle.state.specs.declared.State.{State}
-use Rattle.machine.specs.Turn.{turnOf}
-use Rattle.machine.specs.Step.{refusal, stepOf}
-use Rattle.machine.specs.Bounds.{AreBytes}
-use Rattle.promises.specs.Words.{Words}
+use Rattle.turn.specs.Turn.{turnOf}
+use Rattle.run.specs.Step.{refusal, stepOf}
+use Rattle.walk.specs.Words.{Words}
 
 -- At every address the memory after a step has the byte of the step's store, where the address is in it, and else the byte that was
 -- there.
@@ -23,6 +22,6 @@ OnlyTheStore =
     refusal s m ≡ 0 →
     a < 65536 →
     byteAt (stepOf s m line .memory) a
-    ≡ pick (ltb (minusW a (turnOf s m line .effect .store .at)) (length (runOf (turnOf s m line .effect .store))))
-    (getD (runOf (turnOf s m line .effect .store)) (minusW a (turnOf s m line .effect .store .at)) 0)
+    ≡ pick (ltb (minusW a (turnOf s m line .effect .store .at)) (length (bytesStored (turnOf s m line .effect .store))))
+    (getD (bytesStored (turnOf s m line .effect .store)) (minusW a (turnOf s m line .effect .store .at)) 0)
     (byteAt m a)

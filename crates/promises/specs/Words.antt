@@ -2,27 +2,18 @@
 -- name in proofs/Words.antt.
 use Prim.Native.Nat.{ℕ, _<_}
 use mathlib.Core.List.{List}
-use Rattle.memory.specs.Memory.{runOf}
+use Rattle.memory.specs.Memory.{bytesStored, AreBytes}
 use Rattle.state.specs.declared.State.{State}
 use Rattle.effect.specs.declared.Effect.{Effect}
-use Rattle.machine.specs.Turn.{turnOf}
-use Rattle.machine.specs.Bounds.{AreBytes}
-use Rattle.machine.specs.Step.{turnState, turnMemory}
-
--- the registers hold bytes and words
-pub record Words (s : State) : Type 0 where
-  pub a : s .a < 256
-  pub b : s .b < 256
-  pub x : s .x < 65536
-  pub y : s .y < 65536
-  pub sp : s .sp < 65536
-  pub pc : s .pc < 65536
+use Rattle.turn.specs.Turn.{turnOf}
+use Rattle.run.specs.Step.{turnState, turnMemory}
+use Rattle.walk.specs.Words.{Words}
 
 -- an effect leaves bytes and words in the registers, and stores bytes from an address on
 pub record LeavesWords (e : Effect) : Type 0 where
   pub registers : Words (e .state)
   pub address : e .store .at < 65536
-  pub bytes : AreBytes (runOf (e .store))
+  pub bytes : AreBytes (bytesStored (e .store))
 
 -- from such registers and a memory of bytes every step does
 abbrev pub EveryStepKeepsWords : Type 0

@@ -13,8 +13,9 @@ use Rattle.word.specs.Word.{pick}
 use Rattle.state.specs.declared.State.{State}
 use Rattle.schedule.specs.Schedule.{rising, accepted}
 use Rattle.machine.specs.Names.{memorySize, recordLimit}
-use Rattle.machine.specs.End.{End, endsHere}
-use Rattle.machine.specs.Run.{goesOn, runOf}
+use Rattle.run.specs.Given.{givenIs}
+use Rattle.run.specs.End.{End, endsHere}
+use Rattle.run.specs.Run.{goesOn, runOf}
 use Rattle.records.specs.declared.Record.{Record}
 use Rattle.records.specs.Records.{cyclesOf, linesOf, room, tableCycles, tableLines, noRecords, gathered}
 use Rattle.records.proofs.Laws.{holds-first}
@@ -29,9 +30,9 @@ not-accepted cs ls h = rw (lt-leb (length cs) recordLimit h) (neither (eqb (leng
 
 -- whatever its records are, the run ends where it begins
 refused : (s : State) (m cs ls : List ℕ) (budget : ℕ) → recordLimit < length cs
-    → runOf s m cs ls budget ≡ endsHere (pick (not (eqb (length m) memorySize)) 1 2) s m
+    → runOf s m (givenIs cs ls) budget ≡ endsHere (pick (not (eqb (length m) memorySize)) 1 2) s m
 unfolding runOf
-refused s m cs ls budget h = rw (not-accepted cs ls h) (go (eqb (length m) memorySize) (goesOn _ cs ls s m budget))
+refused s m cs ls budget h = rw (not-accepted cs ls h) (go (eqb (length m) memorySize) (goesOn _ (givenIs cs ls) s m budget))
   where
     go : (whole : Bool) (e : End)
         → pick (eqb (pick (not whole) 1 2) 0) e (endsHere (pick (not whole) 1 2) s m) ≡ endsHere (pick (not whole) 1 2) s m
@@ -40,10 +41,10 @@ refused s m cs ls budget h = rw (not-accepted cs ls h) (go (eqb (length m) memor
 
 -- the numbers that a table has room for stand for all
 enough : (s : State) (m cs ls : List ℕ) (budget : ℕ) → length cs ≡ length ls
-    → runOf s m (take room cs) (take room ls) budget ≡ runOf s m cs ls budget
+    → runOf s m (givenIs (take room cs) (take room ls)) budget ≡ runOf s m (givenIs cs ls) budget
 enough s m cs ls budget same = go (decLe (length cs) room)
   where
-    go : Dec (length cs ≤ room) → runOf s m (take room cs) (take room ls) budget ≡ runOf s m cs ls budget
+    go : Dec (length cs ≤ room) → runOf s m (givenIs (take room cs) (take room ls)) budget ≡ runOf s m (givenIs cs ls) budget
     go (yes fits) = rw (take-all room cs fits, take-all room ls (omega (arith, fits, same)))
     go (no more) =
         refused s m (take room cs) (take room ls) budget (simp length-take (omega (arith, more)))
@@ -51,8 +52,8 @@ enough s m cs ls budget same = go (decLe (length cs) room)
 
 -- the run over the table of the records is the run over the records
 pub same-run : (s : State) (m : List ℕ) (rs : List Record) (budget : ℕ)
-    → runOf s m (tableCycles (gathered noRecords rs)) (tableLines (gathered noRecords rs)) budget
-    ≡ runOf s m (cyclesOf rs) (linesOf rs) budget
+    → runOf s m (givenIs (tableCycles (gathered noRecords rs)) (tableLines (gathered noRecords rs))) budget
+    ≡ runOf s m (givenIs (cyclesOf rs) (linesOf rs)) budget
 same-run s m rs budget =
     let held = holds-first rs in
     let same : length (cyclesOf rs) ≡ length (linesOf rs) =

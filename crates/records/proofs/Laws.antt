@@ -12,11 +12,11 @@ use borrow.Author.Tests.{ltb-true, ltb-false}
 use Rattle.word.specs.Word.{pick}
 use Rattle.records.specs.declared.Record.{Record}
 use Rattle.records.specs.declared.Table.{Table}
-use Rattle.records.specs.Records.{cyclesOf, linesOf, room, tableCycles, tableLines, noRecords, placed, withRecord, gathered}
+use Rattle.records.specs.Records.{recordIs, cyclesOf, linesOf, room, tableCycles, tableLines, noRecords, placed, withRecord, gathered}
 
 -- what a read past the end of a list is taken to give
 abbrev pub none : Record
-none = record { cycle = 0; line = 0 }
+none = recordIs 0 0
 
 -- one turn of a loop over the records, and its end
 pub one-put : (rs : List Record) (t : Table) (i : ℕ) → i < length rs
@@ -57,6 +57,14 @@ placed-sound t r s l = record {
   lines-long = length-set (t .lines) (t .count) (r .line) ∙ s .lines-long;
   within = omega arith;
 }
+
+-- the count stays within the arrays
+pub put-within : (t : Table) (r : Record) → t .count ≤ room → withRecord t r .count ≤ room
+put-within t r within = go (ltb (t .count) room) refl
+  where
+    go : (b : Bool) → ltb (t .count) room ≡ b → pick b (placed t r) t .count ≤ room
+    go true e = omega (arith, ltb-true (t .count) room e)
+    go false e = within
 
 -- a table holds what it held before, and then the records
 gathers : (t : Table) (rs : List Record) → Sound t → Holds (tableCycles t ++ cyclesOf rs) (tableLines t ++ linesOf rs) (gathered t rs)

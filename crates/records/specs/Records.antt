@@ -8,6 +8,9 @@ use Rattle.machine.specs.Names.{recordLimit}
 use Rattle.records.specs.declared.Record.{Record}
 use Rattle.records.specs.declared.Table.{Table}
 
+abbrev pub recordIs : ℕ → ℕ → Record
+recordIs cycle line = record { cycle = cycle; line = line }
+
 -- the cycle numbers of the records, and their line bytes
 abbrev pub cyclesOf : List Record → List ℕ
 cyclesOf rs = map (λ (r : Record). r .cycle) rs

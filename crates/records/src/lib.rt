@@ -1,16 +1,28 @@
 // The run over a lent slice of records: they are gathered into two arrays of numbers, over which the machine runs.
-use machine::Answer;
 use machine::Machine;
+use run::Answer;
 ghost use mathlib.Core.Path.{_≡_};
 ghost use Prim.Native.Nat.{_≤_};
-ghost use Rattle.machine.specs.End.{Ends};
-ghost use Rattle.machine.specs.Run.{runOf};
-ghost use Rattle.records.specs.Records.{cyclesOf, linesOf, room, tableCycles, tableLines, noRecords, withRecord, gathered};
+ghost use Rattle.run.specs.Given.{givenIs};
+ghost use Rattle.run.specs.End.{Ends};
+ghost use Rattle.run.specs.Run.{runOf};
+ghost use Rattle.records.specs.Records.{recordIs, cyclesOf, linesOf, room, tableCycles, tableLines, noRecords, withRecord, gathered};
 
 // From this cycle on, this line byte.
 pub struct Record {
     pub cycle: u32,
     pub line: u8,
+}
+
+impl Record {
+    pub fn of(cycle: u32, line: u8) -> Self
+        ensures { λ r. ⌜ r ≡ recordIs cycle line ⌝ }
+    {
+        Record {
+            cycle: cycle,
+            line: line,
+        }
+    }
 }
 
 // One place more than a schedule may have records: when all are taken the machine refuses them, whatever else follows.
@@ -60,17 +72,17 @@ fn gather(rs: &[Record]) -> Table
 
 pub fn run_table(machine: Machine, m: &mut [u8], t: Table, budget: u32) -> Answer
     requires { ⌜ t .count ≤ room ⌝ }
-    ensures { λ r. ⌜ Ends (runOf (machine .state) (now (m .entry)) (tableCycles t) (tableLines t) budget) r (now (m .exit)) ⌝ }
+    ensures { λ r. ⌜ Ends (runOf (machine .state) (now (m .entry)) (givenIs (tableCycles t) (tableLines t)) budget) r (now (m .exit)) ⌝ }
 {
     let n = t.count;
     let cycles = t.cycles;
     let lines = t.lines;
-    machine.run(m, &cycles[..n], &lines[..n], budget)
+    run::run(machine, m, &cycles[..n], &lines[..n], budget)
 }
 
-// `Machine::run`, with the schedule as a list of records.
+// The machine's run, with the schedule as a list of records.
 pub fn run(machine: Machine, m: &mut [u8], rs: &[Record], budget: u32) -> Answer
-    ensures { λ r. ⌜ Ends (runOf (machine .state) (now (m .entry)) (cyclesOf (now (rs .entry))) (linesOf (now (rs .entry))) budget) r (now (m .exit)) ⌝ }
+    ensures { λ r. ⌜ Ends (runOf (machine .state) (now (m .entry)) (givenIs (cyclesOf (now (rs .entry))) (linesOf (now (rs .entry)))) budget) r (now (m .exit)) ⌝ }
 {
     let t = gather(rs);
     run_table(machine, m, t, budget)

@@ -42,7 +42,11 @@ passed-on (c ∷ cs) clock zero reached inside due = rw (le-leb c clock due) (om
 passed-on (c ∷ cs) clock (suc place) reached inside due =
     go (leb c clock) reached (λ h. passed-on cs clock place h (omega (arith, inside)) due)
   where
-    go : (b : Bool) → suc place ≤ pick b (suc (passed cs clock)) 0 → (place ≤ passed cs clock → suc place ≤ passed cs clock) → suc (suc place) ≤ pick b (suc (passed cs clock)) 0
+    go :
+        (b : Bool) →
+        suc place ≤ pick b (suc (passed cs clock)) 0 →
+        (place ≤ passed cs clock → suc place ≤ passed cs clock) →
+        suc (suc place) ≤ pick b (suc (passed cs clock)) 0
     go true h rest = let more = rest (omega (arith, h)) in omega (arith, more)
     go false h rest = absurd (omega (arith, h))
 
@@ -105,7 +109,11 @@ in-force before (c ∷ cs) [] clock up same = absurd (omega (arith, same))
 in-force before (c ∷ cs) (l ∷ ls) clock up same =
     go (leb c clock) refl (in-force l cs ls clock (rising-rest c cs up) (omega (arith, same)))
   where
-    go : (b : Bool) → leb c clock ≡ b → inForce l cs ls clock ≡ lineFrom l ls (passed cs clock) → inForce (pick b l before) cs ls clock ≡ lineFrom before (l ∷ ls) (pick b (suc (passed cs clock)) 0)
+    go :
+        (b : Bool) →
+        leb c clock ≡ b →
+        inForce l cs ls clock ≡ lineFrom l ls (passed cs clock) →
+        inForce (pick b l before) cs ls clock ≡ lineFrom before (l ∷ ls) (pick b (suc (passed cs clock)) 0)
     go true e rest = rest ∙ line-from l ls (passed cs clock)
     go false e rest = let after = leb-false c clock e in later before c cs ls clock up (omega (arith, after))
 

@@ -6,7 +6,7 @@ use borrow.Author.Tests.{ne-eqb}
 use lib.ListN.{length, length-append}
 use Rattle.state.specs.declared.State.{State}
 use Rattle.machine.specs.Names.{memorySize}
-use Rattle.machine.specs.Run.{runOf}
+use Rattle.run.specs.Run.{runOf}
 use Rattle.text.specs.declared.Text.{Text}
 use Rattle.text.specs.Text.{Followed, numeral, lastDigits}
 use Rattle.text.proofs.Laws.{and-then}
@@ -14,7 +14,8 @@ use Rattle.text.proofs.Digits.{digits-at-most}
 use Rattle.signbench.specs.Bench.{lineOf, WrongImage}
 
 -- a name put, and then a value
-pub named : {t r s u : Text} {before name value : List ℕ} → Followed t before r → Followed r name s → Followed s value u → Followed t (before ++ name ++ value) u
+pub named : {t r s u : Text} {before name value : List ℕ} → Followed t before r → Followed r name s → Followed s value u
+    → Followed t (before ++ name ++ value) u
 named before name value = and-then (and-then before name) value
 
 -- 74 bytes at most: a reply has three digits at most, and cycles ten

@@ -6,9 +6,10 @@ use lib.ListN.{length}
 use Rattle.state.specs.declared.State.{State}
 use Rattle.state.specs.Ccr.{ccrOf}
 use Rattle.machine.specs.Names.{memorySize}
-use Rattle.machine.specs.End.{End}
-use Rattle.machine.specs.Step.{resetOf}
-use Rattle.machine.specs.Run.{runOf}
+use Rattle.machine.specs.Reset.{resetOf}
+use Rattle.run.specs.Given.{givenIs}
+use Rattle.run.specs.End.{End}
+use Rattle.run.specs.Run.{runOf}
 use Rattle.text.specs.Text.{ascii, numeral, hexByte, hexWord}
 
 -- the cycles that the bench gives a run
@@ -17,7 +18,7 @@ benchBudget = 1000000
 
 -- a reset, and a run with no requests
 abbrev pub benched : List ℕ → End
-benched m = runOf (resetOf m) m [] [] benchBudget
+benched m = runOf (resetOf m) m (givenIs [] []) benchBudget
 
 -- reply, cycles used, then PC, A, B, X, Y, SP and CCR
 unfoldable pub lineOf : ℕ → ℕ → State → List ℕ

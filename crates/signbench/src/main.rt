@@ -30,7 +30,7 @@ fn bench(image: &mut [u8]) -> Text
 {
     let started = Machine::reset(&image[..]);
     let machine = started.machine;
-    let answer = machine.run(image, &[], &[], BUDGET);
+    let answer = run::run(machine, image, &[], &[], BUDGET);
     let after = answer.machine;
     let state = after.state;
     let reply = answer.reply;

@@ -3,7 +3,7 @@
 ghost use mathlib.Core.Path.{_≡_};
 ghost use Prim.Native.Nat.{_≤_};
 ghost use Rattle.state.specs.Ccr.{noFlags, setS, setX, setH, setI, setN, setZ, setV, setC, weightOf, ccrOf, flagsOf, takeCcr};
-ghost use Rattle.state.specs.State.{noState, withA, withB, withD, withX, withY, withSp, withPc, withFlags, withWaiting, withClock, dOf};
+ghost use Rattle.state.specs.State.{noStanding, setWaiting, noState, withA, withB, withD, withX, withY, withSp, withPc, withFlags, withStanding, withWaiting, withClock, dOf};
 
 // The condition code register, bit 7 first.
 pub struct Flags {
@@ -17,6 +17,12 @@ pub struct Flags {
     pub c: bool,
 }
 
+// What a machine carries from step to step beside its registers and its clock. What a later edition has to remember is a field here:
+// then only this record's own functions change.
+pub struct Standing {
+    pub waiting: bool,
+}
+
 // In this order the eight flags begin at a multiple of eight bytes, and a state is copied in whole words (docs/SPEED.md).
 pub struct State {
     pub x: u16,
@@ -26,7 +32,7 @@ pub struct State {
     pub flags: Flags,
     pub a: u8,
     pub b: u8,
-    pub waiting: bool,
+    pub standing: Standing,
     pub clock: u32,
 }
 
@@ -146,6 +152,21 @@ fn weight(t: bool, w: u8) -> u8
     if t { w } else { 0 }
 }
 
+impl Standing {
+    pub fn cleared() -> Self
+        ensures { λ r. ⌜ r ≡ noStanding ⌝ }
+    {
+        Standing { waiting: false }
+    }
+
+    pub fn with_waiting(mut self, waiting: bool) -> Self
+        ensures { λ r. ⌜ r ≡ setWaiting self waiting ⌝ }
+    {
+        self.waiting = waiting;
+        self
+    }
+}
+
 impl State {
     pub fn cleared() -> Self
         ensures { λ r. ⌜ r ≡ noState ⌝ }
@@ -158,7 +179,7 @@ impl State {
             sp: 0,
             pc: 0,
             flags: Flags::cleared(),
-            waiting: false,
+            standing: Standing::cleared(),
             clock: 0,
         }
     }
@@ -212,11 +233,18 @@ impl State {
         self
     }
 
-    pub fn with_waiting(mut self, waiting: bool) -> Self
+    fn with_standing(mut self, standing: Standing) -> Self
+        ensures { λ r. ⌜ r ≡ withStanding self standing ⌝ }
+    {
+        self.standing = standing;
+        self
+    }
+
+    pub fn with_waiting(self, waiting: bool) -> Self
         ensures { λ r. ⌜ r ≡ withWaiting self waiting ⌝ }
     {
-        self.waiting = waiting;
-        self
+        let standing = self.standing;
+        self.with_standing(standing.with_waiting(waiting))
     }
 
     pub fn with_clock(mut self, clock: u32) -> Self

@@ -38,7 +38,8 @@ enough : (k base n : ℕ) → 2 ≤ base → n < 2 ^ suc k → lastDigits (suc k
 enough zero base n two small = rw (one-digit 0 base n (omega arith), one-digit 1 base n (omega arith))
 enough (suc k) base n two small = go (decLt n base) (enough k base (n / base) two (half (suc k) base n two small))
   where
-    go : Dec (n < base) → lastDigits (suc k) base (n / base) ≡ lastDigits (suc (suc k)) base (n / base) → lastDigits (suc (suc k)) base n ≡ lastDigits (suc (suc (suc k))) base n
+    go : Dec (n < base) → lastDigits (suc k) base (n / base) ≡ lastDigits (suc (suc k)) base (n / base)
+        → lastDigits (suc (suc k)) base n ≡ lastDigits (suc (suc (suc k))) base n
     go (yes h) same = rw (one-digit (suc k) base n h, one-digit (suc (suc k)) base n h)
     go (no h) same =
         let l : base ≤ n = omega arith in
@@ -60,8 +61,12 @@ part-less base n two more = div-lt-self (omega arith) (omega arith)
 -- a number below the base to the power k + 1 has at most k + 1 digits
 pub digits-at-most : (most k base n : ℕ) → 2 ≤ base → n < base ^ suc k → length (lastDigits most base n) ≤ suc k
 digits-at-most zero k base n two small = rw (no-digits base n) (omega arith)
-digits-at-most (suc most) zero base n two small = rw (one-digit most base n (rw (pow-suc base 0, pow-zero base, one-mul base) at small)) (omega arith)
-digits-at-most (suc most) (suc k) base n two small = go (decLt n base) (digits-at-most most k base (n / base) two (fewer base (base ^ suc k) n (omega arith) (rw (pow-suc base (suc k)) at small)))
+digits-at-most (suc most) zero base n two small =
+    let below = rw (pow-suc base 0, pow-zero base, one-mul base) at small in
+    rw (one-digit most base n below) (omega arith)
+digits-at-most (suc most) (suc k) base n two small =
+    let part = fewer base (base ^ suc k) n (omega arith) (rw (pow-suc base (suc k)) at small) in
+    go (decLt n base) (digits-at-most most k base (n / base) two part)
   where
     go : Dec (n < base) → length (lastDigits most base (n / base)) ≤ suc k → length (lastDigits (suc most) base n) ≤ suc (suc k)
     go (yes h) rest = rw (one-digit most base n h) (omega arith)

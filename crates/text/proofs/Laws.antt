@@ -44,5 +44,6 @@ pub all-written : {t r : Text} {bs : List ℕ} → Followed t bs r → written t
 all-written {t} {r} {bs} put nothing short = put .all ∙ rw (nothing, take-all 80 bs short)
 
 -- bytes of a list put in its order, and the next one
-pub one-more : {t r s : Text} (more : List ℕ) (i : ℕ) → i < length more → Followed t (take i more) r → Followed r (getD more i 0 ∷ []) s → Followed t (take (i + 1) more) s
+pub one-more : {t r s : Text} (more : List ℕ) (i : ℕ) → i < length more → Followed t (take i more) r → Followed r (getD more i 0 ∷ []) s
+    → Followed t (take (i + 1) more) s
 one-more more i inside first next = rw (add-one i, take-suc more i 0 inside) (and-then first next)

@@ -20,6 +20,18 @@ lowOf w = w % 256
 abbrev pub wordOf : ℕ → ℕ → ℕ
 wordOf h l = h * 256 + l
 
+-- the high word of 32 bits
+abbrev pub highWord : ℕ → ℕ
+highWord n = n / 65536
+
+-- the low word of 32 bits
+abbrev pub lowWord : ℕ → ℕ
+lowWord n = n % 65536
+
+-- the 32 bits of a high and a low word
+abbrev pub longOf : ℕ → ℕ → ℕ
+longOf h l = h * 65536 + l
+
 -- a sum of addresses, modulo 65,536
 abbrev pub plusW : ℕ → ℕ → ℕ
 plusW a b = (a + b) % 65536
@@ -31,6 +43,10 @@ minusW a b = (a + 65536 - b) % 65536
 -- 8 bits made 16, the new ones like the sign
 abbrev pub extend8 : ℕ → ℕ
 extend8 b = pick (leb 128 b) (b + 65280) b
+
+-- 9 bits made 16: a byte and the sign above it, the new bits like the sign
+abbrev pub extend9 : Bool → ℕ → ℕ
+extend9 sign b = pick sign (b + 65280) b
 
 -- 16 bits made 32, the new ones like the sign
 abbrev pub extend16 : ℕ → ℕ

@@ -1,7 +1,7 @@
-// Bytes and words: the two halves of a word, sums of addresses modulo 65,536, sign extension, and one bit
-// of a number. Every other crate builds its addresses from these.
+// Bytes and words: the two halves of a word and of 32 bits, sums of addresses modulo 65,536, sign extension.
+// Every other crate builds its addresses from these.
 ghost use mathlib.Core.Path.{_≡_};
-ghost use Rattle.word.specs.Word.{highOf, lowOf, wordOf, plusW, minusW, extend8, extend16, bitOf};
+ghost use Rattle.word.specs.Word.{highOf, lowOf, wordOf, plusW, minusW, extend8, extend9, extend16, highWord, lowWord, longOf};
 
 pub fn high(w: u16) -> u8
     ensures { λ r. ⌜ r ≡ highOf w ⌝ }
@@ -55,12 +55,31 @@ pub fn extend_16(w: u16) -> u32
     }
 }
 
-// Bit k of a number; a bit past the top one is clear.
-pub fn bit(k: u32, n: u32) -> bool
-    ensures { λ r. ⌜ r ≡ bitOf k n ⌝ }
+// Nine bits made 16: the byte, and the ninth bit, which is the sign.
+pub fn extend_9(sign: bool, low: u8) -> u16
+    ensures { λ r. ⌜ r ≡ extend9 sign low ⌝ }
 {
-    if k >= 32 {
-        return false;
+    if sign {
+        low as u16 + 0xFF00
+    } else {
+        low as u16
     }
-    (n >> k) % 2 == 1
+}
+
+pub fn high_word(n: u32) -> u16
+    ensures { λ r. ⌜ r ≡ highWord n ⌝ }
+{
+    (n / 65536) as u16
+}
+
+pub fn low_word(n: u32) -> u16
+    ensures { λ r. ⌜ r ≡ lowWord n ⌝ }
+{
+    (n % 65536) as u16
+}
+
+pub fn long(high: u16, low: u16) -> u32
+    ensures { λ r. ⌜ r ≡ longOf high low ⌝ }
+{
+    (high as u32) * 65536 + (low as u32)
 }

@@ -381,7 +381,7 @@ pub fn execute(operation: Operation, s: &mut Step) {
         TSTA => tsta(s),
         TSTB => tstb(s),
         WAI => wai(s),
-        // The prebyte and the ten encodings that stop the machine are never executed.
+        // The prebyte and the encodings that stop the machine are never executed.
         BGND | CALL | MEM | PAGE2 | REV | REVW | RTC | STOP | WAV | WAVR => {
             unreachable!("refused before it could run")
         }

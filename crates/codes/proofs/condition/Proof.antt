@@ -7,6 +7,12 @@ use Rattle.codes.proofs.Laws.{past}
 use Rattle.codes.proofs.condition.Statement.{statement}
 use Rattle.codes.proofs.condition.Tie as tie
 
+-- no condition is past the last
+none : tie.Need-returns-17
+none c =
+    let a = c .before .before .args in
+    sym (List·getD-eq-default (conditions (a .f)) false (past 16 (a .code) (c .match .rest)))
+
 pub condition-spec : {M : Type 1} → statement M
 condition-spec =
     tie.close
@@ -28,4 +34,4 @@ condition-spec =
     (λ c. rw (c .match .keys14, c .before .sign-wrong .ensures))
     (λ c. rw (c .before .match .keys15, c .before .before .sign-wrong .ensures))
     (λ c. rw (c .before .match .keys16, c .before .before .sign-wrong .ensures))
-    (λ c. sym (List·getD-eq-default (conditions (c .before .before .args .f)) false (past 16 (c .before .before .args .code) (c .match .rest)))))
+    none)

@@ -1,35 +1,83 @@
+use Prim.Native.Nat.{ℕ}
+use mathlib.Core.Path.{ap}
 use borrow.Author.Needs.{needs}
-use mathlib.Core.Path.{_∙_, ap}
+use Rattle.opcodes.specs.Postbyte.{costOf}
+use Rattle.opcodes.proofs.Postbytes.{one-of-five}
+use Rattle.opcodes.specs.declared.Cell.{Cell}
+use Rattle.decode.specs.declared.Opcode.{Opcode}
 use Rattle.decode.specs.Decode.{fetchedOf}
 use Rattle.decode.specs.declared.Fetched.the-variants.{Instruction}
 use Rattle.decode.proofs.fetch.Statement.{statement}
 use Rattle.decode.proofs.fetch.Tie as tie
 
+-- the parts of an opcode
+abbrev cell-of : Opcode → Cell
+cell-of o = o .cell
+
+abbrev at-of : Opcode → ℕ
+at-of o = o .at
+
 stop : tie.Need-returns
 unfolding fetchedOf
 stop c =
     let asked = c .before in
-    rw (← (asked .before .cell-at .ensures), ← (asked .stops .ensures), c .if1 .taken)
+    let found = asked .before .before in
+    rw (← (ap cell-of (found .opcode-at .ensures)), ← (asked .stops .ensures), c .if1 .taken)
+
+priced : tie.Need-full-cost-requires
+priced c κs =
+    let start = c .before .before .before .before .before .before .before in
+    (start .pre .1 .0, rw (c .form-of .ensures) (one-of-five _ (c .before .read-byte .ok)))
+
+first : tie.Need-reserved-requires
+unfolding costOf
+first c κs = rw (c .full-cost .ensures, c .before .form-of .ensures)
 
 reserved : tie.Need-returns-2
 unfolding fetchedOf
 reserved c =
-    let found = c .before in
-    let passed = found .before .before in
+    let second = c .before in
+    let one = second .before in
+    let read = one .before .before .before in
+    let passed = read .before in
     let asked = passed .before in
-    rw
-    (← (asked .before .cell-at .ensures), ← (asked .stops .ensures), passed .if1 .left, ← (found .before .after-opcode .ensures), ← (found .reserved-at .ensures), c .if2 .taken)
+    let found = asked .before .before in
+    rw (
+      ← (ap cell-of (found .opcode-at .ensures)),
+      ← (asked .stops .ensures),
+      passed .if1 .left,
+      ← (ap at-of (found .opcode-at .ensures)),
+      ← (read .read-byte .ensures),
+      ← (one .reserved .ensures),
+      ← (second .second-reserved .ensures),
+      c .if2 .taken,
+    )
 
 instruction : tie.Need-returns-3
-unfolding fetchedOf
+unfolding fetchedOf costOf
 instruction c =
     let free = c .before in
-    let found = free .before in
-    let passed = found .before .before in
+    let second = free .before in
+    let one = second .before in
+    let cost = one .before in
+    let form = cost .before in
+    let read = form .before in
+    let passed = read .before in
     let asked = passed .before in
-    rw
-    (← (asked .before .cell-at .ensures), ← (asked .stops .ensures), passed .if1 .left, ← (found .before .after-opcode .ensures), ← (found .reserved-at .ensures), free .if2 .left)
-    (ap Instruction (c .decoded-at .ensures))
+    let found = asked .before .before in
+    rw (
+      ← (ap cell-of (found .opcode-at .ensures)),
+      ← (asked .stops .ensures),
+      passed .if1 .left,
+      ← (ap at-of (found .opcode-at .ensures)),
+      ← (read .read-byte .ensures),
+      ← (one .reserved .ensures),
+      ← (second .second-reserved .ensures),
+      free .if2 .left,
+      ← (form .form-of .ensures),
+      ← (cost .full-cost .ensures),
+    )
+    (ap Instruction (c .decoded-is .ensures))
 
 pub fetch-spec : {M : Type 1} → statement M
 fetch-spec =
@@ -39,6 +87,9 @@ fetch-spec =
     (λ c κs. search needs)
     stop
     (λ c κs. search needs)
+    (λ c κs. search needs)
+    priced
+    first
     (λ c κs. search needs)
     reserved
     (λ c κs. search needs)

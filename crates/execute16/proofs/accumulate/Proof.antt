@@ -1,11 +1,28 @@
-use Rattle.execute16.specs.Products.{accumulateEffect}
 use borrow.Author.Needs.{needs}
+use Rattle.execute16.specs.Products.{accumulateEffect}
 use Rattle.execute16.proofs.accumulate.Statement.{statement}
 use Rattle.execute16.proofs.accumulate.Tie as tie
 
 returns : tie.Need-returns
 unfolding accumulateEffect
-returns c = rw (c .writes .ensures, c .before .words .ensures, c .before .before .with-flags .ensures, c .before .before .before .before .before .before .emacs .ensures, c .before .before .before .before .before .before .before .read-long .ensures, c .before .before .before .before .before .before .before .before .read-word2 .ensures, c .before .before .before .before .before .before .before .before .before .read-word .ensures)
+returns c =
+    let flagged = c .before .before in
+    let low = flagged .before in
+    let high = low .before in
+    let sum = high .before .before in
+    let long = sum .before in
+    let y = long .before in
+    rw (
+      c .writes .ensures,
+      c .before .words .ensures,
+      flagged .with-flags .ensures,
+      low .low-word .ensures,
+      high .high-word .ensures,
+      sum .emacs .ensures,
+      long .read-long .ensures,
+      y .read-word2 .ensures,
+      y .before .read-word .ensures,
+    )
 
 pub accumulate-spec : {M : Type 1} → statement M
 accumulate-spec =
@@ -15,8 +32,8 @@ accumulate-spec =
     (λ c κs. search needs)
     (λ c κs. search needs)
     (λ c κs. search needs)
-    (λ c. search needs)
-    (λ c. search needs)
+    (λ c κs. search needs)
+    (λ c κs. search needs)
     (λ c κs. search needs)
     (λ c κs. search needs)
     (λ c κs. search needs)

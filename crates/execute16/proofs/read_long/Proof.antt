@@ -3,17 +3,16 @@ use Rattle.execute16.proofs.read_long.Statement.{statement}
 use Rattle.execute16.proofs.read_long.Tie as tie
 
 returns : tie.Need-returns
-returns c = rw (c .read-word2 .ensures, c .before .plus .ensures, c .before .before .read-word .ensures)
+returns c =
+    let after = c .before .before in
+    rw (c .long .ensures, c .before .read-word2 .ensures, after .plus .ensures, after .before .read-word .ensures)
 
 pub read-long-spec : {M : Type 1} → statement M
 read-long-spec =
     tie.close
     (tie.spec
     (λ c κs. search needs)
-    (λ c. search needs)
-    (λ c. search needs)
     (λ c κs. search needs)
     (λ c κs. search needs)
-    (λ c. search needs)
-    (λ c. search needs)
+    (λ c κs. search needs)
     returns)

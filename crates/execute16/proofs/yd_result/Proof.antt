@@ -3,9 +3,24 @@ use Rattle.execute16.proofs.yd_result.Statement.{statement}
 use Rattle.execute16.proofs.yd_result.Tie as tie
 
 returns : tie.Need-returns
-returns c = rw (c .with-flags .ensures, c .before .with-d .ensures, c .before .before .with-y .ensures)
+returns c =
+    let low = c .before .before in
+    let high = low .before .before in
+    rw (
+      c .with-flags .ensures,
+      c .before .with-d .ensures,
+      low .low-word .ensures,
+      low .before .with-y .ensures,
+      high .high-word .ensures,
+    )
 
 pub yd-result-spec : {M : Type 1} → statement M
 yd-result-spec =
     tie.close
-    (tie.spec (λ c. search needs) (λ c. search needs) (λ c κs. search needs) (λ c κs. search needs) (λ c κs. search needs) returns)
+    (tie.spec
+    (λ c κs. search needs)
+    (λ c κs. search needs)
+    (λ c κs. search needs)
+    (λ c κs. search needs)
+    (λ c κs. search needs)
+    returns)

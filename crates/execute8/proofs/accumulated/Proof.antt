@@ -26,7 +26,7 @@ returns-5 c = rw (c .before .before .match .keys5, c .keeping2 .ensures, c .befo
 
 returns-6 : tie.Need-returns-6
 unfolding accumulated
-returns-6 c = rw (c .before .match .keys6, c .loaded .ensures)
+returns-6 c = rw (c .before .match .keys6, c .loaded-byte .ensures)
 
 returns-7 : tie.Need-returns-7
 unfolding accumulated
@@ -42,7 +42,28 @@ returns-9 c = rw (c .before .match .keys9, c .or-8 .ensures)
 
 returns-10 : tie.Need-returns-10
 unfolding accumulated
-returns-10 c = rw (ne-eqb _ _ (c .before .match .rest .0 .0 .0 .0 .0 .0 .0 .0 .1), ne-eqb _ _ (c .before .match .rest .0 .0 .0 .0 .0 .0 .0 .1), ne-eqb _ _ (c .before .match .rest .0 .0 .0 .0 .0 .0 .1), ne-eqb _ _ (c .before .match .rest .0 .0 .0 .0 .0 .1), ne-eqb _ _ (c .before .match .rest .0 .0 .0 .0 .1), ne-eqb _ _ (c .before .match .rest .0 .0 .0 .1), ne-eqb _ _ (c .before .match .rest .0 .0 .1), ne-eqb _ _ (c .before .match .rest .0 .1), ne-eqb _ _ (c .before .match .rest .1), c .add-82 .ensures)
+returns-10 c =
+    let not9 = c .before .match .rest in
+    let not8 = not9 .0 in
+    let not7 = not8 .0 in
+    let not6 = not7 .0 in
+    let not5 = not6 .0 in
+    let not4 = not5 .0 in
+    let not3 = not4 .0 in
+    let not2 = not3 .0 in
+    let not1 = not2 .0 in
+    rw (
+      ne-eqb _ _ (not1 .1),
+      ne-eqb _ _ (not2 .1),
+      ne-eqb _ _ (not3 .1),
+      ne-eqb _ _ (not4 .1),
+      ne-eqb _ _ (not5 .1),
+      ne-eqb _ _ (not6 .1),
+      ne-eqb _ _ (not7 .1),
+      ne-eqb _ _ (not8 .1),
+      ne-eqb _ _ (not9 .1),
+      c .add-82 .ensures,
+    )
 
 pub accumulated-spec : {M : Type 1} → statement M
 accumulated-spec =

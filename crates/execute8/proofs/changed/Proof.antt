@@ -46,7 +46,30 @@ returns-10 c = rw (c .before .match .keys10, c .clr .ensures)
 
 returns-11 : tie.Need-returns-11
 unfolding changed
-returns-11 c = rw (ne-eqb _ _ (c .before .match .rest .0 .0 .0 .0 .0 .0 .0 .0 .0 .1), ne-eqb _ _ (c .before .match .rest .0 .0 .0 .0 .0 .0 .0 .0 .1), ne-eqb _ _ (c .before .match .rest .0 .0 .0 .0 .0 .0 .0 .1), ne-eqb _ _ (c .before .match .rest .0 .0 .0 .0 .0 .0 .1), ne-eqb _ _ (c .before .match .rest .0 .0 .0 .0 .0 .1), ne-eqb _ _ (c .before .match .rest .0 .0 .0 .0 .1), ne-eqb _ _ (c .before .match .rest .0 .0 .0 .1), ne-eqb _ _ (c .before .match .rest .0 .0 .1), ne-eqb _ _ (c .before .match .rest .0 .1), ne-eqb _ _ (c .before .match .rest .1), c .tst .ensures)
+returns-11 c =
+    let not10 = c .before .match .rest in
+    let not9 = not10 .0 in
+    let not8 = not9 .0 in
+    let not7 = not8 .0 in
+    let not6 = not7 .0 in
+    let not5 = not6 .0 in
+    let not4 = not5 .0 in
+    let not3 = not4 .0 in
+    let not2 = not3 .0 in
+    let not1 = not2 .0 in
+    rw (
+      ne-eqb _ _ (not1 .1),
+      ne-eqb _ _ (not2 .1),
+      ne-eqb _ _ (not3 .1),
+      ne-eqb _ _ (not4 .1),
+      ne-eqb _ _ (not5 .1),
+      ne-eqb _ _ (not6 .1),
+      ne-eqb _ _ (not7 .1),
+      ne-eqb _ _ (not8 .1),
+      ne-eqb _ _ (not9 .1),
+      ne-eqb _ _ (not10 .1),
+      c .tst .ensures,
+    )
 
 pub changed-spec : {M : Type 1} → statement M
 changed-spec =

@@ -1,12 +1,15 @@
-use Rattle.flow.specs.Branches.{longEffect}
 use borrow.Author.Needs.{needs}
 use Rattle.flow.proofs.long_branch.Statement.{statement}
 use Rattle.flow.proofs.long_branch.Tie as tie
 
 returns : tie.Need-returns
-unfolding longEffect
-returns c = rw (c .branched .ensures, c .before .read-word .ensures, c .before .before .condition .ensures)
+returns c = rw (c .branched .ensures, c .before .condition .ensures, c .before .before .member-of .ensures)
 
 pub long-branch-spec : {M : Type 1} → statement M
 long-branch-spec =
-    tie.close (tie.spec (λ c κs. search needs) (λ c κs. search needs) (λ c κs. search needs) returns)
+    tie.close
+    (tie.spec
+    (λ c κs. search needs)
+    (λ c κs. search needs)
+    (λ c κs. search needs)
+    returns)

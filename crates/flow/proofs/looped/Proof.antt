@@ -1,32 +1,60 @@
+use borrow.Author.Tests.{ne-eqb}
 use Rattle.flow.specs.Branches.{looped}
-use borrow.Author.Tests.{eq-eqb, ne-eqb}
 use borrow.Author.Needs.{needs}
 use Rattle.flow.proofs.looped.Statement.{statement}
 use Rattle.flow.proofs.looped.Tie as tie
 
-returns : tie.Need-returns
+with-a : tie.Need-returns
 unfolding looped
-returns c = rw (eq-eqb _ _ (c .before .before .before .if1 .taken), c .byte-looped .ensures, c .before .with-a .ensures, c .before .before .turn-8 .ensures)
+with-a c =
+    let counted = c .before .before in
+    rw (counted .before .match .keys1, c .byte-looped .ensures, c .before .with-a .ensures, counted .count-8 .ensures)
 
-returns-2 : tie.Need-returns-2
+with-b : tie.Need-returns-2
 unfolding looped
-returns-2 c = rw (ne-eqb _ _ (c .before .before .before .before .if1 .left), eq-eqb _ _ (c .before .before .before .if2 .taken), c .byte-looped2 .ensures, c .before .with-b .ensures, c .before .before .turn-82 .ensures)
+with-b c =
+    let counted = c .before .before in
+    rw (counted .before .match .keys2, c .byte-looped2 .ensures, c .before .with-b .ensures, counted .count-82 .ensures)
 
-returns-3 : tie.Need-returns-3
+with-d : tie.Need-returns-3
 unfolding looped
-returns-3 c = rw (ne-eqb _ _ (c .before .before .before .before .before .before .if1 .left), ne-eqb _ _ (c .before .before .before .before .before .if2 .left), eq-eqb _ _ (c .before .before .before .before .if3 .taken), c .word-looped .ensures, c .before .with-d .ensures, c .before .before .turn-16 .ensures, c .before .before .before .d .ensures)
+with-d c =
+    let counted = c .before .before in
+    rw (
+      counted .before .before .match .keys3,
+      c .word-looped .ensures,
+      c .before .with-d .ensures,
+      counted .count-16 .ensures,
+      counted .before .d .ensures,
+    )
 
-returns-4 : tie.Need-returns-4
+with-x : tie.Need-returns-4
 unfolding looped
-returns-4 c = rw (ne-eqb _ _ (c .before .before .before .before .before .before .if1 .left), ne-eqb _ _ (c .before .before .before .before .before .if2 .left), ne-eqb _ _ (c .before .before .before .before .if3 .left), eq-eqb _ _ (c .before .before .before .if4 .taken), c .word-looped2 .ensures, c .before .with-x .ensures, c .before .before .turn-162 .ensures)
+with-x c =
+    let counted = c .before .before in
+    rw (counted .before .match .keys4, c .word-looped2 .ensures, c .before .with-x .ensures, counted .count-162 .ensures)
 
-returns-5 : tie.Need-returns-5
+with-y : tie.Need-returns-5
 unfolding looped
-returns-5 c = rw (ne-eqb _ _ (c .before .before .before .before .before .before .before .if1 .left), ne-eqb _ _ (c .before .before .before .before .before .before .if2 .left), ne-eqb _ _ (c .before .before .before .before .before .if3 .left), ne-eqb _ _ (c .before .before .before .before .if4 .left), eq-eqb _ _ (c .before .before .before .if5 .taken), c .word-looped3 .ensures, c .before .with-y .ensures, c .before .before .turn-163 .ensures)
+with-y c =
+    let counted = c .before .before in
+    rw (counted .before .match .keys5, c .word-looped3 .ensures, c .before .with-y .ensures, counted .count-163 .ensures)
 
-returns-6 : tie.Need-returns-6
+with-sp : tie.Need-returns-6
 unfolding looped
-returns-6 c = rw (ne-eqb _ _ (c .before .before .before .before .before .before .before .if1 .left), ne-eqb _ _ (c .before .before .before .before .before .before .if2 .left), ne-eqb _ _ (c .before .before .before .before .before .if3 .left), ne-eqb _ _ (c .before .before .before .before .if4 .left), ne-eqb _ _ (c .before .before .before .if5 .left), c .word-looped4 .ensures, c .before .with-sp .ensures, c .before .before .turn-164 .ensures)
+with-sp c =
+    let counted = c .before .before in
+    let no = counted .before .match .rest in
+    rw (
+      ne-eqb _ _ (no .0 .0 .0 .0 .1),
+      ne-eqb _ _ (no .0 .0 .0 .1),
+      ne-eqb _ _ (no .0 .0 .1),
+      ne-eqb _ _ (no .0 .1),
+      ne-eqb _ _ (no .1),
+      c .word-looped4 .ensures,
+      c .before .with-sp .ensures,
+      counted .count-164 .ensures,
+    )
 
 pub looped-spec : {M : Type 1} → statement M
 looped-spec =
@@ -35,25 +63,25 @@ looped-spec =
     (λ c κs. search needs)
     (λ c κs. search needs)
     (λ c κs. search needs)
-    returns
-    (λ c κs. search needs)
-    (λ c κs. search needs)
-    (λ c κs. search needs)
-    returns-2
     (λ c κs. search needs)
     (λ c κs. search needs)
     (λ c κs. search needs)
     (λ c κs. search needs)
-    returns-3
     (λ c κs. search needs)
     (λ c κs. search needs)
     (λ c κs. search needs)
-    returns-4
     (λ c κs. search needs)
     (λ c κs. search needs)
     (λ c κs. search needs)
-    returns-5
     (λ c κs. search needs)
     (λ c κs. search needs)
     (λ c κs. search needs)
-    returns-6)
+    (λ c κs. search needs)
+    (λ c κs. search needs)
+    (λ c κs. search needs)
+    with-a
+    with-b
+    with-d
+    with-x
+    with-y
+    with-sp)

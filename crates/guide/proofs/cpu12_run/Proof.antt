@@ -1,14 +1,15 @@
 use borrow.Author.Needs.{needs}
 use mathlib.Core.Path.{sym, _∙_, ap}
 use Rattle.state.specs.declared.State.{State}
-use Rattle.machine.specs.Run.{runOf}
+use Rattle.run.specs.Given.{givenIs}
+use Rattle.run.specs.Run.{runOf}
 use Rattle.records.specs.declared.Table.{Table}
 use Rattle.records.specs.Records.{tableCycles, tableLines}
 use Rattle.records.proofs.Laws.{holds-first}
 use Rattle.records.proofs.First.{same-run}
-use Rattle.machine.proofs.Run.{ends-same}
-use Rattle.guide.specs.Bytes.{stateOf, recordsOf}
-use Rattle.guide.proofs.Laws.{none-first, record-whole, door-refuses, door-opens, told-leaves}
+use Rattle.run.proofs.Loop.{ends-same}
+use Rattle.packing.specs.Bytes.{stateOf, recordsOf}
+use Rattle.guide.proofs.Laws.{none-first, accepted, door-refuses, door-opens, told-leaves}
 use Rattle.guide.proofs.cpu12_run.Statement.{statement}
 use Rattle.guide.proofs.cpu12_run.Tie as tie
 
@@ -16,24 +17,27 @@ state-of-requires : tie.Need-state-of-requires
 state-of-requires c κs =
     let passed = c .before in
     let lent = passed .before .before .before .before .before .before .args in
-    record-whole (lent .state .now) (none-first _ _ (sym (passed .before .lent-refusal .ensures) ∙ passed .if1 .left))
+    let none = none-first _ _ (sym (passed .before .lent-refusal .ensures) ∙ passed .if1 .left) in
+    accepted (lent .state .now) none .whole
 
 run-table-requires : tie.Need-run-table-requires
 run-table-requires c κs =
-    let gathered = c .before .before in
+    let gathered = c .before .before .before in
     let lent = gathered .before .before .before .before .before .before .before .before .before .args in
     rw (gathered .unpacked .ensures) (holds-first (recordsOf (lent .schedule .now)) .sound .within)
 
 told-requires : tie.Need-told-requires
 told-requires c κs =
-    let passed = c .before .before .before .before .before .before .before .before in
+    let passed = c .before .before .before .before .before .before .before .before .before in
     let lent = passed .before .before .before .before .before .before .args in
-    record-whole (lent .state .now) (none-first _ _ (sym (passed .before .lent-refusal .ensures) ∙ passed .if1 .left))
+    let none = none-first _ _ (sym (passed .before .lent-refusal .ensures) ∙ passed .if1 .left) in
+    accepted (lent .state .now) none .whole
 
 ran : tie.Need-returns-2
 ran c =
     let answered = c .before .before .before .before .before in
-    let gathered = answered .before .before .before in
+    let made = answered .before .before in
+    let gathered = made .before .before in
     let read = gathered .before in
     let passed = read .before .before in
     let lent = passed .before .before .before .before .before .before .args in
@@ -41,8 +45,10 @@ ran c =
     let s = stateOf (lent .state .now) in
     let rs = recordsOf (lent .schedule .now) in
     let t = gathered .unpacked .result in
-    let of-record = ap (λ (s : State). runOf s m (tableCycles t) (tableLines t) (lent .budget)) (read .state-of .ensures) in
-    let of-records = ap (λ (t : Table). runOf s m (tableCycles t) (tableLines t) (lent .budget)) (gathered .unpacked .ensures) in
+    let is-state = made .of .ensures ∙ read .state-of .ensures in
+    let of-record = ap (λ (s : State). runOf s m (givenIs (tableCycles t) (tableLines t)) (lent .budget)) is-state in
+    let is-table = gathered .unpacked .ensures in
+    let of-records = ap (λ (t : Table). runOf s m (givenIs (tableCycles t) (tableLines t)) (lent .budget)) is-table in
     door-opens _ _ _ _ (passed .before .lent-refusal .ensures) (passed .if1 .left)
     (told-leaves
     (ends-same (sym (of-record ∙ of-records ∙ same-run s m rs (lent .budget))) (answered .run-table .ensures))
@@ -56,6 +62,7 @@ cpu12-run-spec =
     (λ c. search needs)
     (λ c. door-refuses _ _ _ _ (c .before .lent-refusal .ensures) (c .if1 .taken))
     state-of-requires
+    (λ c κs. search needs)
     (λ c κs. search needs)
     run-table-requires
     told-requires

@@ -1,16 +1,13 @@
 use borrow.Author.Needs.{needs}
 use borrow.Author.Tests.{le-leb, lt-leb}
 use native.Mathlib.Omega.{arith}
-use Rattle.opcodes.specs.Postbyte.{lengthOf}
 use Rattle.opcodes.proofs.full_length.Statement.{statement}
 use Rattle.opcodes.proofs.full_length.Tie as tie
 
 with-postbyte : tie.Need-returns
-unfolding lengthOf
 with-postbyte c = rw (le-leb _ _ (c .before .before .if1 .taken), c .extension .ensures)
 
 without : tie.Need-returns-2
-unfolding lengthOf
 without c = rw (lt-leb _ _ (c .before .if1 .left)) (omega arith)
 
 pub full-length-spec : {M : Type 1} → statement M

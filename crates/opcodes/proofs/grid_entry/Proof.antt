@@ -7,7 +7,7 @@ use Rattle.opcodes.proofs.grid_entry.Tie as tie
 
 entry : tie.Need-returns-3
 unfolding gridAt grid
-entry c = refl
+entry c = rw (c .before .before .before .pre) refl
 
 pub grid-entry-spec : {M : Type 1} → statement M
 grid-entry-spec =

@@ -1,6 +1,6 @@
 use borrow.Author.Needs.{needs}
 use borrow.Author.Tests.{eq-eqb, ne-eqb, le-leb, lt-leb}
-use Rattle.opcodes.specs.Postbyte.{reservedOf}
+use Rattle.opcodes.specs.Postbyte.{reservedOf, costOf}
 use Rattle.opcodes.proofs.reserved.Statement.{statement}
 use Rattle.opcodes.proofs.reserved.Tie as tie
 
@@ -14,13 +14,15 @@ loop c =
     rw (ne-eqb _ _ (c .before .before .before .if1 .left), eq-eqb _ _ (c .before .if2 .taken))
     (c .loop-reserved .ensures)
 
+-- the cost is the grid's, and 0 where it has no such form
 indexed : tie.Need-returns-3
-unfolding reservedOf
+unfolding reservedOf costOf
 indexed c =
-    let at3 = c .before in
-    let at2 = at3 .before .before in
+    let at2 = c .before .before in
     let at1 = at2 .before .before in
-    rw (ne-eqb _ _ (at1 .if1 .left), ne-eqb _ _ (at2 .if2 .left), le-leb _ _ (at3 .if3 .taken), c .indexed-cost .ensures)
+    let priced = at1 .before .before .pre in
+    let has = le-leb _ _ (c .if3 .taken) in
+    rw (ne-eqb _ _ (at1 .if1 .left), ne-eqb _ _ (at2 .if2 .left), priced, has)
 
 none : tie.Need-returns-4
 unfolding reservedOf
@@ -37,6 +39,5 @@ reserved-spec =
     transfer
     (λ c κs. search needs)
     loop
-    (λ c κs. search needs)
     indexed
     none)

@@ -1,24 +1,37 @@
 use borrow.Author.Needs.{needs}
 use borrow.Author.Tests.{eq-eqb, ne-eqb}
-use Rattle.operand.specs.Indexed.{accumulatorPlace}
 use Rattle.operand.proofs.accumulator_place.Statement.{statement}
 use Rattle.operand.proofs.accumulator_place.Tie as tie
 
 by-a : tie.Need-returns
-unfolding accumulatorPlace
-by-a c = rw (eq-eqb _ _ (c .before .before .before .if1 .taken)) (cc)
+by-a c =
+    let at1 = c .before .before .before in
+    rw (c .place-at .ensures, c .before .plus .ensures, at1 .before .base .ensures, eq-eqb _ _ (at1 .if1 .taken))
 
 by-b : tie.Need-returns-2
-unfolding accumulatorPlace
-by-b c = rw (ne-eqb _ _ (c .before .before .before .before .if1 .left), eq-eqb _ _ (c .before .before .before .if2 .taken)) (cc)
+by-b c =
+    let at2 = c .before .before .before in
+    let at1 = at2 .before in
+    rw (
+      c .place-at2 .ensures,
+      c .before .plus2 .ensures,
+      at1 .before .base .ensures,
+      ne-eqb _ _ (at1 .if1 .left),
+      eq-eqb _ _ (at2 .if2 .taken),
+    )
 
 by-d : tie.Need-returns-3
-unfolding accumulatorPlace
-by-d c = rw (ne-eqb _ _ (c .before .before .before .before .before .if1 .left), ne-eqb _ _ (c .before .before .before .before .if2 .left), eq-eqb _ _ (c .before .if3 .taken)) (cc)
-
-indirect : tie.Need-returns-4
-unfolding accumulatorPlace
-indirect c = rw (ne-eqb _ _ (c .before .before .before .before .before .before .if1 .left), ne-eqb _ _ (c .before .before .before .before .before .if2 .left), ne-eqb _ _ (c .before .before .if3 .left)) (cc)
+by-d c =
+    let at2 = c .before .before .before in
+    let at1 = at2 .before in
+    rw (
+      c .place-at3 .ensures,
+      c .before .plus3 .ensures,
+      c .before .before .d .ensures,
+      at1 .before .base .ensures,
+      ne-eqb _ _ (at1 .if1 .left),
+      ne-eqb _ _ (at2 .if2 .left),
+    )
 
 pub accumulator-place-spec : {M : Type 1} → statement M
 accumulator-place-spec =
@@ -36,7 +49,4 @@ accumulator-place-spec =
     (λ c κs. search needs)
     (λ c κs. search needs)
     (λ c κs. search needs)
-    by-d
-    (λ c κs. search needs)
-    (λ c κs. search needs)
-    indirect)
+    by-d)

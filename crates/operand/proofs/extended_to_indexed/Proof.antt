@@ -1,11 +1,19 @@
-use Rattle.operand.specs.Operand.{extendedToIndexed}
 use borrow.Author.Needs.{needs}
+use Rattle.operand.specs.Operand.{extendedToIndexed}
 use Rattle.operand.proofs.extended_to_indexed.Statement.{statement}
 use Rattle.operand.proofs.extended_to_indexed.Tie as tie
 
 returns : tie.Need-returns
 unfolding extendedToIndexed
-returns c = cc
+returns c =
+    let to = c .before .before .before .before in
+    rw (
+      c .route-is .ensures,
+      c .before .read-word .ensures,
+      c .before .before .plus2 .ensures,
+      to .first-place .ensures,
+      to .before .plus .ensures,
+    )
 
 pub extended-to-indexed-spec : {M : Type 1} → statement M
 extended-to-indexed-spec =

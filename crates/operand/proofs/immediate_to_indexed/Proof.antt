@@ -1,11 +1,19 @@
-use Rattle.operand.specs.Operand.{immediateToIndexed}
 use borrow.Author.Needs.{needs}
+use Rattle.operand.specs.Operand.{immediateToIndexed}
 use Rattle.operand.proofs.immediate_to_indexed.Statement.{statement}
 use Rattle.operand.proofs.immediate_to_indexed.Tie as tie
 
 returns : tie.Need-returns
 unfolding immediateToIndexed
-returns c = cc
+returns c =
+    let to = c .before .before .before in
+    rw (
+      c .route-is .ensures,
+      c .before .plus2 .ensures,
+      to .first-place .ensures,
+      to .before .plus .ensures,
+      to .before .before .data-size .ensures,
+    )
 
 pub immediate-to-indexed-spec : {M : Type 1} → statement M
 immediate-to-indexed-spec =

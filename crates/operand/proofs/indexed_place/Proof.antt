@@ -1,32 +1,66 @@
 use borrow.Author.Needs.{needs}
-use borrow.Author.Tests.{eq-eqb, ne-eqb}
-use Rattle.operand.specs.Indexed.{indexedPlace}
+use mathlib.Core.Path.{_≡_, sym, _∙_}
+use Prim.Native.Nat.{ℕ}
+use mathlib.Core.List.{List}
+use borrow.Author.Tests.{ne-eqb}
+use Rattle.memory.specs.Memory.{byteAt}
+use Rattle.state.specs.declared.State.{State}
+use Rattle.opcodes.specs.Postbyte.{formOf}
+use Rattle.operand.specs.declared.Place.{Place}
+use Rattle.operand.specs.Indexed.{placeIn, indexedPlace}
+use Rattle.operand.proofs.Forms.{by-its-form}
 use Rattle.operand.proofs.indexed_place.Statement.{statement}
 use Rattle.operand.proofs.indexed_place.Tie as tie
 
-accumulator : tie.Need-returns
-unfolding indexedPlace
-accumulator c =
-    let at1 = c .before .before .before in
-    rw (← (at1 .before .read-byte .ensures), eq-eqb _ _ (at1 .if1 .taken), eq-eqb _ _ (c .before .before .if2 .taken), eq-eqb _ _ (c .before .if3 .taken)) (cc)
+-- a place by the form of the postbyte that stands there is the place that it names
+by-form :
+    (s : State) (m : List ℕ) (at pc : ℕ) {p form : ℕ} {place : Place} →
+    p ≡ byteAt m at →
+    form ≡ formOf p →
+    place ≡ placeIn form s m at pc p →
+    place ≡ indexedPlace s m at pc
+by-form s m at pc is named placed = placed ∙ rw (named, is) (by-its-form s m at pc)
 
-constant : tie.Need-returns-2
-unfolding indexedPlace
-constant c =
-    let at1 = c .before .before .before in
-    rw (← (at1 .before .read-byte .ensures), eq-eqb _ _ (at1 .if1 .taken), eq-eqb _ _ (c .before .before .if2 .taken), ne-eqb _ _ (c .before .if3 .left)) (cc)
+plain : tie.Need-returns
+unfolding placeIn
+plain c =
+    let told = c .before in
+    let start = told .before .before in
+    by-form _ _ _ _ (start .pre .1 .0) (start .pre .1 .1) (c .plain-place .ensures ∙ sym (rw (told .match .keys1)))
 
-stepped : tie.Need-returns-3
-unfolding indexedPlace
-stepped c =
-    let at1 = c .before .before in
-    rw (← (at1 .before .read-byte .ensures), eq-eqb _ _ (at1 .if1 .taken), ne-eqb _ _ (c .before .if2 .left)) (cc)
+nine : tie.Need-returns-2
+unfolding placeIn
+nine c =
+    let told = c .before in
+    let start = told .before .before in
+    by-form _ _ _ _ (start .pre .1 .0) (start .pre .1 .1) (c .nine-bit-place .ensures ∙ sym (rw (told .match .keys2)))
 
-five : tie.Need-returns-4
-unfolding indexedPlace
-five c =
-    let at1 = c .before in
-    rw (← (at1 .before .read-byte .ensures), ne-eqb _ _ (at1 .if1 .left)) (cc)
+sixteen : tie.Need-returns-3
+unfolding placeIn
+sixteen c =
+    let told = c .before in
+    let start = told .before .before in
+    by-form _ _ _ _ (start .pre .1 .0) (start .pre .1 .1) (c .sixteen-bit-place .ensures ∙ sym (rw (told .match .keys3)))
+
+through-d : tie.Need-returns-4
+unfolding placeIn
+through-d c =
+    let told = c .before in
+    let start = told .before .before in
+    by-form _ _ _ _ (start .pre .1 .0) (start .pre .1 .1) (c .through-d .ensures ∙ sym (rw (told .match .keys4)))
+
+through-sixteen : tie.Need-returns-5
+unfolding placeIn
+through-sixteen c =
+    let told = c .before in
+    let start = told .before .before in
+    let not4 = told .match .rest in
+    let not3 = not4 .0 in
+    let not2 = not3 .0 in
+    let not1 = not2 .0 in
+    by-form _ _ _ _ (start .pre .1 .0) (start .pre .1 .1)
+    (c .through-sixteen .ensures
+    ∙ sym (rw (ne-eqb _ _ (not1 .1), ne-eqb _ _ (not2 .1), ne-eqb _ _ (not3 .1), ne-eqb _ _ (not4 .1))))
 
 pub indexed-place-spec : {M : Type 1} → statement M
 indexed-place-spec =
@@ -34,10 +68,11 @@ indexed-place-spec =
     (tie.spec
     (λ c κs. search needs)
     (λ c κs. search needs)
-    accumulator
     (λ c κs. search needs)
-    constant
     (λ c κs. search needs)
-    stepped
     (λ c κs. search needs)
-    five)
+    plain
+    nine
+    sixteen
+    through-d
+    through-sixteen)

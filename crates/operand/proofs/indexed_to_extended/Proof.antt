@@ -1,11 +1,19 @@
-use Rattle.operand.specs.Operand.{indexedToExtended}
 use borrow.Author.Needs.{needs}
+use Rattle.operand.specs.Operand.{indexedToExtended}
 use Rattle.operand.proofs.indexed_to_extended.Statement.{statement}
 use Rattle.operand.proofs.indexed_to_extended.Tie as tie
 
 returns : tie.Need-returns
 unfolding indexedToExtended
-returns c = cc
+returns c =
+    let from = c .before .before .before .before in
+    rw (
+      c .route-is .ensures,
+      c .before .read-word .ensures,
+      c .before .before .plus .ensures,
+      from .first-place .ensures,
+      from .before .minus .ensures,
+    )
 
 pub indexed-to-extended-spec : {M : Type 1} → statement M
 indexed-to-extended-spec =

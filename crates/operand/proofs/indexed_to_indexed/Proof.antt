@@ -1,11 +1,21 @@
-use Rattle.operand.specs.Operand.{indexedToIndexed}
 use borrow.Author.Needs.{needs}
+use Rattle.operand.specs.Operand.{indexedToIndexed}
 use Rattle.operand.proofs.indexed_to_indexed.Statement.{statement}
 use Rattle.operand.proofs.indexed_to_indexed.Tie as tie
 
 returns : tie.Need-returns
 unfolding indexedToIndexed
-returns c = cc
+returns c =
+    let to = c .before .before in
+    let from = to .before .before .before .before in
+    rw (
+      c .route-is .ensures,
+      to .second-place .ensures,
+      to .before .plus2 .ensures,
+      to .before .before .plus .ensures,
+      from .first-place .ensures,
+      from .before .minus .ensures,
+    )
 
 pub indexed-to-indexed-spec : {M : Type 1} → statement M
 indexed-to-indexed-spec =

@@ -1,37 +1,62 @@
-use Rattle.operand.specs.Operand.{operandPlace}
-use borrow.Author.Tests.{eq-eqb, ne-eqb}
 use borrow.Author.Needs.{needs}
+use mathlib.Core.Path.{_∙_}
+use borrow.Author.Tests.{eq-eqb, ne-eqb}
+use Rattle.operand.specs.Operand.{operandPlace}
 use Rattle.operand.proofs.operand_place.Statement.{statement}
 use Rattle.operand.proofs.operand_place.Tie as tie
 
-returns : tie.Need-returns
+immediate : tie.Need-returns
 unfolding operandPlace
-returns c = rw (eq-eqb _ _ (c .before .if1 .taken)) (cc)
+immediate c = rw (eq-eqb _ _ (c .before .if1 .taken), c .place-at .ensures)
 
-returns-2 : tie.Need-returns-2
+direct : tie.Need-returns-2
 unfolding operandPlace
-returns-2 c = rw (ne-eqb _ _ (c .before .before .before .if1 .left), eq-eqb _ _ (c .before .before .if2 .taken)) (cc)
+direct c =
+    let at2 = c .before .before in
+    let at1 = at2 .before .before in
+    let start = at1 .before .before .before in
+    rw
+    (ne-eqb _ _ (at1 .if1 .left), eq-eqb _ _ (at2 .if2 .taken), c .place-at2 .ensures, start .pre .1 .postbyte)
 
-returns-3 : tie.Need-returns-3
+extended : tie.Need-returns-3
 unfolding operandPlace
-returns-3 c = rw (ne-eqb _ _ (c .before .before .before .before .if1 .left), ne-eqb _ _ (c .before .before .before .if2 .left), eq-eqb _ _ (c .before .before .if3 .taken)) (cc)
+extended c =
+    let at3 = c .before .before in
+    let at2 = at3 .before .before in
+    let at1 = at2 .before .before in
+    rw (
+      ne-eqb _ _ (at1 .if1 .left),
+      ne-eqb _ _ (at2 .if2 .left),
+      eq-eqb _ _ (at3 .if3 .taken),
+      c .place-at3 .ensures,
+      c .before .read-word .ensures,
+    )
 
-returns-4 : tie.Need-returns-4
+faithful : tie.Need-indexed-place-requires
+faithful c κs =
+    let start = c .before .before .before .before .before .before .before in
+    (start .pre .0, (start .pre .1 .postbyte, start .pre .1 .form))
+
+indexed : tie.Need-returns-4
 unfolding operandPlace
-returns-4 c = rw (ne-eqb _ _ (c .before .before .before .if1 .left), ne-eqb _ _ (c .before .before .if2 .left), ne-eqb _ _ (c .before .if3 .left)) (cc)
+indexed c =
+    let at3 = c .before in
+    let at2 = at3 .before .before in
+    let at1 = at2 .before .before in
+    rw
+    (ne-eqb _ _ (at1 .if1 .left), ne-eqb _ _ (at2 .if2 .left), ne-eqb _ _ (at3 .if3 .left), c .indexed-place .ensures)
 
 pub operand-place-spec : {M : Type 1} → statement M
 operand-place-spec =
     tie.close
     (tie.spec
     (λ c κs. search needs)
-    returns
-    (λ c κs. search needs)
+    immediate
     (λ c. search needs)
     (λ c κs. search needs)
-    returns-2
+    direct
     (λ c κs. search needs)
     (λ c κs. search needs)
-    returns-3
-    (λ c κs. search needs)
-    returns-4)
+    extended
+    faithful
+    indexed)

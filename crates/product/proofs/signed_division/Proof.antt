@@ -39,7 +39,8 @@ cast-signed-2 : tie.Need-cast-signed-2
 cast-signed-2 c =
     let size = c .before .before .before in
     let a = size .before .before .args in
-    record { fits = inside-fits (exclusiveOr (a .negative) (c .before .before .top-16 .result)) (a .n / size .magnitude-16 .result) (c .before .if2 .left) }
+    let unlike = exclusiveOr (a .negative) (c .before .before .top-16 .result) in
+    record { fits = inside-fits unlike (a .n / size .magnitude-16 .result) (c .before .if2 .left) }
 
 returns-3 : tie.Need-returns-3
 returns-3 c =

@@ -19,8 +19,10 @@ use prog.Wp.{Heap, Env, Calls, Loops, WpFn, Tables}
 use ghost.Atoms.{Atoms, sem}
 use contract.Monad.{Fun, fact}
 use contract.Running.{givenOf, tables, tablesOf}
-use types.Kit.{Given, Item, ‵, raw, _⊛_, ⋆, some, later, runs, atRet, Sq, _$_, _∵_, !, qed, by, move, keep, drop, use1, use2, split, join, pick, fsplit, fjoin, feqL, suffices, frame, await, done}
-use types.Run.{look, init, forget, stop, hop, fld, from, load, addr, and-then, no-more, assigns, land, returns, enter, alloc1, alloc0, params1, pass1, pass0, free1, free0}
+use types.Kit.{Given, Item, ‵, raw, _⊛_, ⋆, some, later, runs, atRet, Sq, _$_, _∵_, !, qed, by, move, keep, drop}
+use types.Kit.{use1, use2, split, join, pick, fsplit, fjoin, feqL, suffices, frame, await, done}
+use types.Run.{look, init, forget, stop, hop, fld, from, load, addr, and-then, no-more, assigns, land, returns}
+use types.Run.{enter, alloc1, alloc0, params1, pass1, pass0, free1, free0}
 use types.Part.{agg, whole, sub, look-in}
 use sound.WpLaws.{FmC, fmOf, WpFn-mono}
 use denote.RattleType.{owns}
@@ -30,7 +32,8 @@ use denote.Plain.{uint-vals, uint-tells, uint-makes}
 use denote.Builtin.{u8, u32}
 use denote.Ref.{RefT, now}
 use denote.Signature.{plain}
-use denote.Slice.{sliceTy, sliceVal, MutSlice, ShrSlice, Room, finally, slice-vals, mut-slice-tells, shr-slice-tells, shr-slice-copy, shr-slice-lawful}
+use denote.Slice.{sliceTy, sliceVal, MutSlice, ShrSlice, Room, finally}
+use denote.Slice.{slice-vals, mut-slice-tells, shr-slice-tells, shr-slice-copy, shr-slice-lawful}
 use denote.Steps.{owned, facts, heard, nothing}
 use denote.Struct.Laws as LL
 use denote.Triple.Statement.{Contract, Triple}
@@ -38,17 +41,19 @@ use denote.Triple.Call.{calls-at}
 use denote.Triple.Entry.{Vals, onEntry}
 use denote.Triple.Spec.{Meets, tripleOf}
 use denote.Triple.Table.{entered, cited}
-use denote.Triple.Walked.{says, Stays, stay-dropped, stay-none-slice, gave-slice, walkOf, goes-dropped, goes-none-slice, goes-gave-slice, Walks, ends-at, walked, walk-meets}
+use denote.Triple.Walked.{says, Stays, stay-dropped, stay-none-slice, gave-slice, walkOf, goes-dropped, goes-none-slice, goes-gave-slice}
+use denote.Triple.Walked.{Walks, ends-at, walked, walk-meets}
 use denote.Exit.{yes}
 use denote.Triple.Clauses.{ensured, lasts}
 use Rattle.machine.specs.declared.Machine.{Machine}
-use Rattle.machine.specs.declared.Answer.{Answer}
-use Rattle.machine.specs.End.{End, Ends}
-use Rattle.machine.specs.Run.{runOf}
 use Rattle.machine.proofs.Machine as S
 use Rattle.machine.proofs.Machine.Laws as S′
-use Rattle.machine.proofs.Answer as D
-use Rattle.machine.proofs.Answer.Laws as D′
+use Rattle.run.specs.declared.Answer.{Answer}
+use Rattle.run.specs.Given.{givenIs}
+use Rattle.run.specs.End.{End, Ends}
+use Rattle.run.specs.Run.{runOf}
+use Rattle.run.proofs.Answer as D
+use Rattle.run.proofs.Answer.Laws as D′
 use Rattle.records.specs.Records.{cyclesOf, linesOf, room, tableCycles, tableLines, noRecords, gathered}
 use Rattle.records.specs.declared.Record.{Record}
 use Rattle.records.specs.declared.Table.{Table}
@@ -177,7 +182,7 @@ module _ {M : Type 1} (𝓤 : URA M) (H : Heap 𝓤) (A : Atoms 𝓤) (W : Given
 
   -- what is told of its answer r and of the last bytes zs
   abbrev Told : Table → Answer → List ℕ → Type 0
-  Told t r zs = Ends (runOf (s .state) ms (tableCycles t) (tableLines t) budget) r zs
+  Told t r zs = Ends (runOf (s .state) ms (givenIs (tableCycles t) (tableLines t)) budget) r zs
 
   abbrev Ws : Type 0
   Ws = Unit {0} × (List ℕ × (Unit {0} × (Unit {0} × Unit {0})))
@@ -186,7 +191,7 @@ module _ {M : Type 1} (𝓤 : URA M) (H : Heap 𝓤) (A : Atoms 𝓤) (W : Given
   said-h t r ws = ‵ (lasts h.ended (κ₀, tt) (args-h t) ws) ⊛ raw (fact 𝓤 (Told t r (ws .1 .0)))
 
   exits : (r : Answer) (w : Val) (zs : List ℕ) → Is D.the-row r (w ∷ []) → length zs ≡ length ms
-      → Ends (runOf (s .state) ms (cyclesOf (now y)) (linesOf (now y)) budget) r zs
+      → Ends (runOf (s .state) ms (givenIs (cyclesOf (now y)) (linesOf (now y))) budget) r zs
       → ent 𝓤 (⋆ 𝓤 H A (token-m ∷ ‵ (finally u8 γ zs) ∷ token-r ∷ ‵ OwnR ∷ [])) (Post w)
   exits r w zs is l e =
       qed W (token-m ∷ ‵ (finally u8 γ zs) ∷ token-r ∷ ‵ OwnR ∷ []) ∵

@@ -8,7 +8,7 @@ use Rattle.records.proofs.run_table.Statement.{statement}
 use Rattle.records.proofs.run_table.Tie as tie
 use Rattle.records.proofs.run_table.Reads as reads
 use Rattle.records.proofs.run_table.Lts as lts
-use Rattle.machine.proofs.Machine.run.Reads as run-reads
+use Rattle.run.proofs.run.Reads as run-reads
 
 module _ (c : lts.Start (run-reads.Asked, run-reads.Learnt) reads.Pre reads.Post) where
   -- the count is within both arrays

@@ -4,7 +4,9 @@ use Rattle.text.proofs.Text.put_hex_byte.Statement.{statement}
 use Rattle.text.proofs.Text.put_hex_byte.Tie as tie
 
 returns : tie.Need-returns
-returns c = rw (← c .before .digit2 .ensures, ← c .before .before .before .digit .ensures) (and-then (c .before .before .put .ensures) (c .put2 .ensures))
+returns c =
+    let first = c .before .before in
+    rw (← c .before .digit2 .ensures, ← first .before .digit .ensures) (and-then (first .put .ensures) (c .put2 .ensures))
 
 pub put-hex-byte-spec : {M : Type 1} → statement M
 put-hex-byte-spec =

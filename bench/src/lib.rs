@@ -1,0 +1,8 @@
+//! The images of the speed figures, and a run of one of them on the proved machine or on the second emulator.
+
+pub mod images;
+mod program;
+pub mod trial;
+
+/// The cycles of each timed run.
+pub const CYCLES: u32 = 50_000_000;

@@ -1,9 +1,0 @@
-use borrow.Author.Needs.{needs}
-use Rattle.flow.proofs.pulled.Statement.{statement}
-use Rattle.flow.proofs.pulled.Tie as tie
-
-returns : tie.Need-returns
-returns c = rw (c .quiet .ensures, c .before .with-sp .ensures, c .before .before .plus .ensures)
-
-pub pulled-spec : {M : Type 1} → statement M
-pulled-spec = tie.close (tie.spec (λ c κs. search needs) (λ c κs. search needs) (λ c κs. search needs) returns)

@@ -1,0 +1,41 @@
+-- The replies and their numbers. Assumes nothing.
+use Prim.Native.Nat.{ℕ, _≤_}
+use native.Mathlib.Omega.{arith}
+use mathlib.Core.Path.{_≡_, refl, sym, _∙_, ap}
+use lib.Dec.{eqb}
+use Rattle.word.specs.Word.{pick}
+use Rattle.machine.specs.declared.Reply.{Reply}
+use Rattle.machine.specs.declared.Reply.the-variants.{Done, WrongMemory, WrongSchedule, PastLimit, Stopped, ReservedPostbyte}
+use Rattle.machine.specs.Names.{numberOf}
+
+-- the reply of a number
+replyOf : ℕ → Reply
+replyOf n =
+    pick (eqb n 0) Done
+    (pick (eqb n 1) WrongMemory
+    (pick (eqb n 2) WrongSchedule (pick (eqb n 3) PastLimit (pick (eqb n 4) Stopped ReservedPostbyte))))
+
+back : (r : Reply) → replyOf (numberOf r) ≡ r
+unfolding replyOf
+back Done = refl
+back WrongMemory = refl
+back WrongSchedule = refl
+back PastLimit = refl
+back Stopped = refl
+back ReservedPostbyte = refl
+
+-- replies with the same number are the same
+pub same-reply : (r r′ : Reply) → numberOf r ≡ numberOf r′ → r ≡ r′
+same-reply r r′ e = sym (back r) ∙ (ap replyOf e ∙ back r′)
+
+-- the reply with number 0 is Done
+pub number-zero : (r : Reply) → numberOf r ≡ 0 → r ≡ Done
+number-zero r e = same-reply r Done e
+
+pub number-most : (r : Reply) → numberOf r ≤ 5
+number-most Done = omega arith
+number-most WrongMemory = omega arith
+number-most WrongSchedule = omega arith
+number-most PastLimit = omega arith
+number-most Stopped = omega arith
+number-most ReservedPostbyte = omega arith

@@ -1,9 +1,0 @@
-use borrow.Author.Needs.{needs}
-use Rattle.machine.proofs.ran.Statement.{statement}
-use Rattle.machine.proofs.ran.Tie as tie
-
-returns : tie.Need-returns
-returns c = rw (c .turn-is .ensures, c .before .executed .ensures, c .before .before .with-pc .ensures)
-
-pub ran-spec : {M : Type 1} → statement M
-ran-spec = tie.close (tie.spec (λ c κs. search needs) (λ c κs. search needs) (λ c κs. search needs) returns)

@@ -1,0 +1,3 @@
+pub mod Moves
+pub mod Addresses
+pub mod Bits

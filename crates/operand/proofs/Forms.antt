@@ -1,0 +1,34 @@
+-- The place that a postbyte names, by its bits and by its form. On the definitions alone. Assumes nothing.
+use Prim.Native.Nat.{ℕ, _/_, _%_}
+use mathlib.Core.Path.{_≡_, refl}
+use mathlib.Core.Bool.{Bool, true, false, not}
+use lib.Dec.{eqb}
+use Rattle.word.specs.Word.{pick, bitOf}
+use Rattle.memory.specs.Memory.{byteAt}
+use Rattle.opcodes.specs.Postbyte.{formOf, IDX, IDX1, IDX2, [D:IDX], [IDX2]}
+use Rattle.operand.specs.declared.Place.{Place}
+use Rattle.operand.specs.Indexed.{fivePlace, steppedPlace, nineBits, sixteenBits, throughSixteen, throughD, plainAccumulator, constantPlace, accumulatorPlace, indexedPlace, placeIn, ByItsForm}
+
+-- the two choices, each for any truth of the bits that they look at
+agree :
+    (b5 top b2 b1 b0 d : Bool) (five stepped plain pointer nine sixteen through : Place) →
+    (let form = pick (not b5) IDX
+    (pick (not top) IDX
+    (pick (not b2) (pick (not b1) IDX1 (pick (not b0) IDX2 [IDX2])) (pick d [D:IDX] IDX))) in
+    pick (eqb form IDX) (pick b5 (pick top plain stepped) five)
+    (pick (eqb form IDX1) nine (pick (eqb form IDX2) sixteen (pick (eqb form [D:IDX]) pointer through))))
+    ≡ pick b5 (pick top (pick b2 (pick d pointer plain) (pick b1 (pick b0 through sixteen) nine)) stepped) five
+agree false top b2 b1 b0 d five stepped plain pointer nine sixteen through = refl
+agree true false b2 b1 b0 d five stepped plain pointer nine sixteen through = refl
+agree true true false false b0 d five stepped plain pointer nine sixteen through = refl
+agree true true false true false d five stepped plain pointer nine sixteen through = refl
+agree true true false true true d five stepped plain pointer nine sixteen through = refl
+agree true true true b1 b0 false five stepped plain pointer nine sixteen through = refl
+agree true true true b1 b0 true five stepped plain pointer nine sixteen through = refl
+
+pub by-its-form : ByItsForm
+unfolding placeIn indexedPlace formOf constantPlace accumulatorPlace
+by-its-form s m at pc =
+    let p = byteAt m at in
+    agree (bitOf 5 p) (eqb (p / 64) 3) (bitOf 2 p) (bitOf 1 p) (bitOf 0 p) (eqb (p % 4) 3) (fivePlace s pc p) (steppedPlace s p)
+    (plainAccumulator s pc p) (throughD s m pc p) (nineBits s m at pc p) (sixteenBits s m at pc p) (throughSixteen s m at pc p)

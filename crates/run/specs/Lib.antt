@@ -1,0 +1,4 @@
+pub mod Given
+pub mod End
+pub mod Step
+pub mod Run

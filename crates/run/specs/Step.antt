@@ -1,0 +1,39 @@
+-- A single step: reply, state, cycles used and all bytes, for every input (document 01, "Numbered replies").
+use Prim.Native.Nat.{ℕ, _+_}
+use mathlib.Core.Bool.{not}
+use mathlib.Core.List.{List}
+use lib.Dec.{ltb, eqb}
+use lib.ListN.{length}
+use Rattle.word.specs.Word.{pick}
+use Rattle.memory.specs.Memory.{committed}
+use Rattle.state.specs.declared.State.{State}
+use Rattle.state.specs.State.{withClock}
+use Rattle.effect.specs.declared.Effect.{Effect}
+use Rattle.machine.specs.Names.{numberOf, memorySize, stepLimit}
+use Rattle.turn.specs.Turn.{turnOf}
+use Rattle.run.specs.End.{End, endIs, endsHere}
+
+-- whether a step is refused: reply 1 for the memory, then 3 for the clock
+abbrev pub refusal : State → List ℕ → ℕ
+refusal s m = pick (not (eqb (length m) memorySize)) 1 (pick (ltb stepLimit (s .clock)) 3 0)
+
+-- the state after an effect: the clock has grown by its cost
+abbrev pub acted : State → Effect → State
+acted s e = withClock (e .state) (s .clock + e .cost)
+
+-- what a turn leaves: its effect is acted on, and its store is made
+abbrev pub turnCost : State → List ℕ → ℕ → ℕ
+turnCost s m line = turnOf s m line .effect .cost
+
+abbrev pub turnState : State → List ℕ → ℕ → State
+turnState s m line = acted s (turnOf s m line .effect)
+
+abbrev pub turnMemory : State → List ℕ → ℕ → List ℕ
+turnMemory s m line = committed m (turnOf s m line .effect .store)
+
+abbrev pub turnEnd : State → List ℕ → ℕ → End
+turnEnd s m line = endIs (numberOf (turnOf s m line .reply)) (turnState s m line) (turnMemory s m line) (turnCost s m line)
+
+-- a step: refused it leaves all as it was
+unfoldable pub stepOf : State → List ℕ → ℕ → End
+stepOf s m line = pick (eqb (refusal s m) 0) (turnEnd s m line) (endsHere (refusal s m) s m)

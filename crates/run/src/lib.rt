@@ -1,0 +1,166 @@
+// One step under a line byte, and a run with a schedule and a budget: one loop. What is lent is tested here, and refused with
+// document 01's number.
+use effect::Effect;
+use machine::Machine;
+use machine::Reply;
+use state::State;
+ghost use mathlib.Core.Path.{_≡_};
+ghost use mathlib.Core.Bool.{true};
+ghost use Prim.Native.Nat.{_+_, _≤_};
+ghost use lib.ListN.{length};
+ghost use Rattle.memory.specs.Memory.{committed};
+ghost use Rattle.opcodes.specs.Grid.{grid as gridOf};
+ghost use Rattle.opcodes.specs.Map.{opcodeMap};
+ghost use Rattle.schedule.specs.Schedule.{rising};
+ghost use Rattle.machine.specs.Names.{numberOf, clockLimit};
+ghost use Rattle.run.specs.Given.{givenIs};
+ghost use Rattle.run.specs.End.{Ends};
+ghost use Rattle.run.specs.Step.{refusal, acted, stepOf};
+ghost use Rattle.run.specs.Run.{pastLimit, runRefusal, goesOn, runOf};
+
+// What a step or a run answers: the machine after it, and the cycles that it used.
+pub struct Answer {
+    pub reply: Reply,
+    pub machine: Machine,
+    pub cycles: u32,
+}
+
+fn answered(reply: Reply, state: State, cycles: u32) -> Answer
+    ensures { λ r. ⌜ (r .reply ≡ reply) × ((r .machine .state ≡ state) × (r .cycles ≡ cycles)) ⌝ }
+{
+    let machine = Machine::of(state);
+    Answer {
+        reply: reply,
+        machine: machine,
+        cycles: cycles,
+    }
+}
+
+// No step costs more, so that this budget is enough for any one.
+const ONE_STEP: u32 = 13;
+
+// The clock and the budget may each be any number of 32 bits: their sum is taken in 64.
+fn past_limit(clock: u32, budget: u32) -> bool
+    ensures { λ r. ⌜ r ≡ pastLimit clock budget ⌝ }
+{
+    (budget > Machine::BUDGET_LIMIT) | (clock as u64 + budget as u64 > Machine::CLOCK_LIMIT)
+}
+
+// What a step refuses, in this order; Done where it refuses nothing.
+fn step_refusal(s: State, m: &[u8]) -> Reply
+    ensures { λ r. ⌜ numberOf r ≡ refusal s (now (m .entry)) ⌝ }
+{
+    if m.len() != Machine::MEMORY {
+        return Reply::WrongMemory;
+    }
+    if s.clock > Machine::STEP_LIMIT {
+        return Reply::PastLimit;
+    }
+    Reply::Done
+}
+
+// What a run refuses, in this order; Done where it refuses nothing.
+fn run_refusal(s: State, m: &[u8], cycles: &[u32], lines: &[u8], budget: u32) -> Reply
+    ensures { λ r. ⌜ numberOf r ≡ runRefusal s (now (m .entry)) (givenIs (now (cycles .entry)) (now (lines .entry))) budget ⌝ }
+{
+    if m.len() != Machine::MEMORY {
+        return Reply::WrongMemory;
+    }
+    if !schedule::accepted(cycles, lines, Machine::RECORDS) {
+        return Reply::WrongSchedule;
+    }
+    if past_limit(s.clock, budget) {
+        return Reply::PastLimit;
+    }
+    Reply::Done
+}
+
+// What was worked out is done: its store is made, and the clock moves by its cost.
+fn act(s: State, m: &mut [u8], e: Effect) -> State
+    requires { ⌜ length (now m) ≡ 65536 ⌝ }
+    requires { ⌜ s .clock + e .cost ≤ clockLimit ⌝ }
+    ensures { λ r. ⌜ (r ≡ acted s e) × (now (m .exit) ≡ committed (now (m .entry)) (e .store)) ⌝ }
+{
+    let after = e.state;
+    let store = e.store;
+    memory::commit(m, store);
+    after.with_clock(s.clock + e.cost as u32)
+}
+
+// So many boundaries, or until a step costs more than is left or the machine stops. What was lent has been tested.
+fn go(
+    map: &[u32; 512],
+    grid: &[[u8; 8]; 18],
+    start: State,
+    m: &mut [u8],
+    cycles: &[u32],
+    lines: &[u8],
+    budget: u32,
+    boundaries: u32,
+) -> Answer
+    requires { ⌜ now map ≡ opcodeMap ⌝ }
+    requires { ⌜ now grid ≡ gridOf ⌝ }
+    requires { ⌜ length (now m) ≡ 65536 ⌝ }
+    requires { ⌜ length (now cycles) ≡ length (now lines) ⌝ }
+    requires { ⌜ rising (now cycles) ≡ true ⌝ }
+    requires { ⌜ start .clock + budget ≤ clockLimit ⌝ }
+    ensures { λ r. ⌜ Ends (goesOn boundaries (givenIs (now (cycles .entry)) (now (lines .entry))) start (now (m .entry)) budget) r (now (m .exit)) ⌝ }
+{
+    let mut s = start;
+    let mut left = budget;
+    let mut used: u32 = 0;
+    let mut place: usize = 0;
+    let mut more = boundaries;
+    loop {
+        if more == 0 {
+            break answered(Reply::Done, s, used);
+        }
+        place = schedule::passed(cycles, place, s.clock);
+        let line = schedule::line_before(lines, place);
+        let next = turn::turn_at(map, grid, s, &m[..], line);
+        let reply = next.reply;
+        if reply.number() != 0 {
+            break answered(reply, s, used);
+        }
+        let done = next.effect;
+        let cost = done.cost as u32;
+        if left < cost {
+            break answered(Reply::Done, s, used);
+        }
+        s = act(s, m, done);
+        left = left - cost;
+        used = used + cost;
+        more = more - 1;
+    }
+}
+
+// One step under the line byte `line`: the loop with one boundary. Refused or stopped, it changes no register and no byte.
+pub fn step(machine: Machine, m: &mut [u8], line: u8) -> Answer
+    ensures { λ r. ⌜ Ends (stepOf (machine .state) (now (m .entry)) line) r (now (m .exit)) ⌝ }
+{
+    let s = machine.state;
+    let refused = step_refusal(s, &m[..]);
+    if refused.number() != 0 {
+        return answered(refused, s, 0);
+    }
+    let map = opcodes::map();
+    let grid = opcodes::grid();
+    let cycles: [u32; 1] = [0];
+    let lines: [u8; 1] = [line];
+    go(&map, &grid, s, m, &cycles[..], &lines[..], ONE_STEP, 1)
+}
+
+// Steps, each under the line byte in force at its boundary, until one costs more than is left of the budget or the machine stops.
+// Each costs a cycle at least, so that there are no more boundaries than cycles, and the one at the end.
+pub fn run(machine: Machine, m: &mut [u8], cycles: &[u32], lines: &[u8], budget: u32) -> Answer
+    ensures { λ r. ⌜ Ends (runOf (machine .state) (now (m .entry)) (givenIs (now (cycles .entry)) (now (lines .entry))) budget) r (now (m .exit)) ⌝ }
+{
+    let s = machine.state;
+    let refused = run_refusal(s, &m[..], cycles, lines, budget);
+    if refused.number() != 0 {
+        return answered(refused, s, 0);
+    }
+    let map = opcodes::map();
+    let grid = opcodes::grid();
+    go(&map, &grid, s, m, cycles, lines, budget, budget + 1)
+}

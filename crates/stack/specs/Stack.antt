@@ -1,0 +1,84 @@
+-- Pushes and pulls, subroutines, and the frame of an interrupt. SP points at the last byte that was pushed (002, 2.1.3, p. 2-2).
+use Prim.Native.Nat.{ℕ}
+use mathlib.Core.Bool.{true}
+use mathlib.Core.List.{List, [], _∷_}
+use lib.Dec.{eqb}
+use Rattle.word.specs.Word.{pick, highOf, lowOf, plusW, minusW}
+use Rattle.memory.specs.declared.Store.{Store}
+use Rattle.memory.specs.Memory.{byteAt, wordAt, storeByte, storeWord, storeNine}
+use Rattle.state.specs.declared.Flags.{Flags}
+use Rattle.state.specs.declared.State.{State}
+use Rattle.state.specs.Ccr.{ccrOf, takeCcr}
+use Rattle.state.specs.State.{withA, withB, withD, withX, withY, withSp, withPc, withFlags, withWaiting, dOf}
+use Rattle.opcodes.specs.Kind.{PULX, PULY, PULA, PULB, PSHX, PSHY, PSHA, PSHB, PULC, PSHC, PULD}
+use Rattle.decode.specs.declared.Decoded.{Decoded}
+use Rattle.effect.specs.declared.Effect.{Effect}
+use Rattle.effect.specs.Effect.{quiet, writes}
+
+-- SP falls, and the byte or word is stored there
+abbrev pub bytePushed : State → ℕ → ℕ → Effect
+bytePushed s cost v = writes (withSp s (minusW (s .sp) 1)) cost (storeByte (minusW (s .sp) 1) v)
+
+abbrev pub wordPushed : State → ℕ → ℕ → Effect
+wordPushed s cost v = writes (withSp s (minusW (s .sp) 2)) cost (storeWord (minusW (s .sp) 2) v)
+
+-- SP rises by as many bytes as were pulled
+abbrev pub pulled : State → ℕ → ℕ → Effect
+pulled s n cost = quiet (withSp s (plusW (s .sp) n)) cost
+
+-- PULX to PSHD, which is the last
+unfoldable pub stacked : ℕ → State → List ℕ → ℕ → Effect
+stacked kind s m cost =
+    pick (eqb kind PULX) (pulled (withX s (wordAt m (s .sp))) 2 cost)
+    (pick (eqb kind PULY) (pulled (withY s (wordAt m (s .sp))) 2 cost)
+    (pick (eqb kind PULA) (pulled (withA s (byteAt m (s .sp))) 1 cost)
+    (pick (eqb kind PULB) (pulled (withB s (byteAt m (s .sp))) 1 cost)
+    (pick (eqb kind PSHX) (wordPushed s cost (s .x))
+    (pick (eqb kind PSHY) (wordPushed s cost (s .y))
+    (pick (eqb kind PSHA) (bytePushed s cost (s .a))
+    (pick (eqb kind PSHB) (bytePushed s cost (s .b))
+    (pick (eqb kind PULC) (pulled (withFlags s (takeCcr (s .flags) (byteAt m (s .sp)))) 1 cost)
+    (pick (eqb kind PSHC) (bytePushed s cost (ccrOf (s .flags)))
+    (pick (eqb kind PULD) (pulled (withD s (wordAt m (s .sp))) 2 cost) (wordPushed s cost (dOf s))))))))))))
+
+unfoldable pub stackEffect : State → List ℕ → Decoded → Effect
+stackEffect s m d = stacked (d .kind) s m (d .cost)
+
+-- a subroutine: the return address is pushed, and PC is the subroutine's
+unfoldable pub subroutineEffect : State → ℕ → ℕ → Effect
+subroutineEffect s cost target =
+    writes (withPc (withSp s (minusW (s .sp) 2)) target) cost (storeWord (minusW (s .sp) 2) (s .pc))
+
+-- RTS
+unfoldable pub returnEffect : State → List ℕ → ℕ → Effect
+returnEffect s m cost = quiet (withPc (withSp s (plusW (s .sp) 2)) (wordAt m (s .sp))) cost
+
+-- The frame, from the new SP upward: CCR, B, A, X, Y, PC, each high byte first (document 01, "Requests"; 002, p. 6-196).
+abbrev pub frameOf : State → List ℕ
+frameOf s =
+    ccrOf (s .flags) ∷ s .b ∷ s .a ∷ highOf (s .x) ∷ lowOf (s .x) ∷ highOf (s .y) ∷ lowOf (s .y) ∷ highOf (s .pc) ∷ lowOf (s .pc) ∷ []
+
+abbrev pub frameStore : State → Store
+frameStore s = storeNine (minusW (s .sp) 9) (frameOf s)
+
+-- An entry by a vector: the vector's word is read from the memory before the frame is pushed. The frame has the condition codes as they
+-- were; the entry leaves those that are given, in which I is set.
+unfoldable pub interruptEffect : State → List ℕ → ℕ → Flags → ℕ → Effect
+interruptEffect s m vector after cost =
+    writes (withPc (withFlags (withSp s (minusW (s .sp) 9)) after) (wordAt m vector)) cost (frameStore s)
+
+-- WAI: the same frame, and the machine waits
+unfoldable pub waitEffect : State → ℕ → Effect
+waitEffect s cost = writes (withWaiting (withSp s (minusW (s .sp) 9)) true) cost (frameStore s)
+
+-- RTI: the frame is pulled, CCR under the rule for X (002, p. 6-177)
+unfoldable pub pulledFrame : State → List ℕ → State
+pulledFrame s m =
+    withPc
+    (withY
+    (withX
+    (withA (withB (withFlags (withSp s (plusW (s .sp) 9)) (takeCcr (s .flags) (byteAt m (s .sp)))) (byteAt m (plusW (s .sp) 1)))
+    (byteAt m (plusW (s .sp) 2)))
+    (wordAt m (plusW (s .sp) 3)))
+    (wordAt m (plusW (s .sp) 5)))
+    (wordAt m (plusW (s .sp) 7))

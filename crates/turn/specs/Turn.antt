@@ -1,0 +1,109 @@
+-- What comes next at a boundary (document 01, "Numbered replies": entry, waiting, 4, 5; "Requests").
+use Prim.Native.Nat.{ℕ}
+use mathlib.Core.Bool.{true, false, _&&_, not}
+use mathlib.Core.List.{List}
+use lib.Dec.{ltb, eqb}
+use Rattle.word.specs.Word.{pick, bitOf}
+use Rattle.memory.specs.Memory.{wordAt}
+use Rattle.state.specs.declared.Flags.{Flags}
+use Rattle.state.specs.declared.State.{State}
+use Rattle.state.specs.Ccr.{setX, setI}
+use Rattle.state.specs.State.{withPc, withFlags, withWaiting}
+use Rattle.opcodes.specs.Kind.{SWI, TRAP, groupOf, SHORT-BRANCHES, LONG-BRANCHES, WITH-A, WITH-B, WITH-WORD, STORES, IN-MEMORY, IN-A, IN-B, REGISTERS, PRODUCTS, STACK, CONTROL, ADDRESSES, CHOICES, MOVES, LOOKUPS}
+use Rattle.decode.specs.declared.Decoded.{Decoded}
+use Rattle.decode.specs.declared.Fetched.{Fetched}
+use Rattle.decode.specs.declared.Fetched.the-variants.{Stop, Reserved, Instruction}
+use Rattle.decode.specs.Decode.{fetchedOf}
+use Rattle.effect.specs.declared.Effect.{Effect}
+use Rattle.effect.specs.Effect.{quiet}
+use Rattle.execute8.specs.Bytes.{withAEffect, withBEffect, inMemoryEffect, inAEffect, inBEffect}
+use Rattle.execute16.specs.Words.{withWordEffect, storeEffect, chooseEffect}
+use Rattle.execute16.specs.Registers.{registersEffect}
+use Rattle.execute16.specs.Products.{productEffect}
+use Rattle.execute16.specs.Lookups.{lookupEffect}
+use Rattle.stack.specs.Stack.{stackEffect, interruptEffect}
+use Rattle.flow.specs.Branches.{shortEffect, longEffect}
+use Rattle.flow.specs.Control.{controlEffect}
+use Rattle.moves.specs.Moves.{moveEffect}
+use Rattle.moves.specs.Addresses.{addressEffect}
+use Rattle.moves.specs.Bits.{bitsEffect}
+use Rattle.machine.specs.declared.Reply.{Reply}
+use Rattle.machine.specs.declared.Reply.the-variants.{Done, Stopped, ReservedPostbyte}
+use Rattle.turn.specs.declared.Turn.{Turn}
+use Rattle.machine.specs.Names.{swiVector, trapVector, lineVector, entryCost, wakeCost, idleCost}
+
+-- The lowest line from 1 to 7 whose bit is set; 8 is none.
+abbrev pub lowestLine : ℕ → ℕ
+lowestLine line =
+    pick (bitOf 1 line) 1
+    (pick (bitOf 2 line) 2
+    (pick (bitOf 3 line) 3
+    (pick (bitOf 4 line) 4 (pick (bitOf 5 line) 5 (pick (bitOf 6 line) 6 (pick (bitOf 7 line) 7 8))))))
+
+-- The line that is to be entered: XIRQ, bit 0, needs X clear, the others I clear; the lowest goes first; 8 is none.
+unfoldable pub allowedLine : Flags → ℕ → ℕ
+allowedLine f line = pick (bitOf 0 line && not (f .x)) 0 (pick (f .i) 8 (lowestLine line))
+
+-- the masks after line k is entered: I, and X too for XIRQ
+abbrev pub masked : ℕ → Flags → Flags
+masked k f = pick (eqb k 0) (setX (setI f true) true) (setI f true)
+
+-- an entry: the vector is read, the frame is pushed with the flags as they were, and the masks are set
+unfoldable pub entryEffect : State → List ℕ → ℕ → Effect
+entryEffect s m k = interruptEffect s m (lineVector k) (masked k (s .flags)) entryCost
+
+-- the end of a wait: the vector is read, the masks are set, nothing is pushed
+unfoldable pub wakeEffect : State → List ℕ → ℕ → Effect
+wakeEffect s m k = quiet (withWaiting (withPc (withFlags s (masked k (s .flags))) (wordAt m (lineVector k))) false) wakeCost
+
+-- what changes the flow and has no operand in memory, with SWI and the traps, which are entries by a vector and set I
+unfoldable pub controlled : State → List ℕ → Decoded → Effect
+controlled s m d =
+    pick (eqb (d .kind) SWI) (interruptEffect s m swiVector (setI (s .flags) true) (d .cost))
+    (pick (eqb (d .kind) TRAP) (interruptEffect s m trapVector (setI (s .flags) true) (d .cost)) (controlEffect s m d))
+
+-- the groups whose instructions have an operand at a place in memory; the last is BITS
+unfoldable pub withOperand : ℕ → State → List ℕ → Decoded → Effect
+withOperand group s m d =
+    pick (eqb group WITH-A) (withAEffect s m d)
+    (pick (eqb group WITH-B) (withBEffect s m d)
+    (pick (eqb group WITH-WORD) (withWordEffect s m d)
+    (pick (eqb group STORES) (storeEffect s m d)
+    (pick (eqb group IN-MEMORY) (inMemoryEffect s m d)
+    (pick (eqb group ADDRESSES) (addressEffect s m d)
+    (pick (eqb group CHOICES) (chooseEffect s m d) (pick (eqb group LOOKUPS) (lookupEffect s m d) (bitsEffect s m d))))))))
+
+-- an instruction, by its group; PC of the state is the address after it
+unfoldable pub executed : State → List ℕ → Decoded → Effect
+executed s m d =
+    let group = groupOf (d .kind) in
+    pick (eqb group SHORT-BRANCHES) (shortEffect s m d)
+    (pick (eqb group LONG-BRANCHES) (longEffect s m d)
+    (pick (eqb group IN-A) (inAEffect s d)
+    (pick (eqb group IN-B) (inBEffect s d)
+    (pick (eqb group REGISTERS) (registersEffect s m d)
+    (pick (eqb group PRODUCTS) (productEffect s m d)
+    (pick (eqb group STACK) (stackEffect s m d)
+    (pick (eqb group CONTROL) (controlled s m d)
+    (pick (eqb group MOVES) (moveEffect s m d) (withOperand group s m d)))))))))
+
+abbrev pub turnIs : Reply → Effect → Turn
+turnIs reply e = record { reply = reply; effect = e }
+
+-- an instruction: PC goes past the whole of it, and then it is done
+abbrev pub ranOf : State → List ℕ → Decoded → Turn
+ranOf s m d = turnIs Done (executed (withPc s (d .next)) m d)
+
+-- what stands at PC: an instruction is done; else nothing is done, and the reply says why
+unfoldable pub instructed : State → List ℕ → Fetched → Turn
+instructed s m Stop = turnIs Stopped (quiet s 0)
+instructed s m Reserved = turnIs ReservedPostbyte (quiet s 0)
+instructed s m (Instruction d) = ranOf s m d
+
+-- The turn at a boundary: an entry or the end of a wait where a line is allowed, an idle cycle of a machine that waits, and else
+-- what stands at PC.
+unfoldable pub turnOf : State → List ℕ → ℕ → Turn
+turnOf s m line =
+    let k = allowedLine (s .flags) line in
+    pick (ltb k 8) (pick (s .standing .waiting) (turnIs Done (wakeEffect s m k)) (turnIs Done (entryEffect s m k)))
+    (pick (s .standing .waiting) (turnIs Done (quiet s idleCost)) (instructed s m (fetchedOf m (s .pc))))

@@ -1,0 +1,219 @@
+// What the machine does next at a boundary, worked out whole over a memory that is only read.
+use decode::Decoded;
+use decode::Fetched;
+use effect::Effect;
+use machine::Machine;
+use machine::Reply;
+use opcodes::group;
+use opcodes::kind;
+use state::Flags;
+use state::State;
+ghost use mathlib.Core.Path.{_≡_};
+ghost use Prim.Native.Nat.{_<_};
+ghost use lib.ListN.{length};
+ghost use Rattle.opcodes.specs.Grid.{grid as gridOf};
+ghost use Rattle.opcodes.specs.Map.{opcodeMap};
+ghost use Rattle.decode.specs.Decode.{Faithful, fetchedOf};
+ghost use Rattle.machine.specs.Names.{lineVector};
+ghost use Rattle.turn.specs.Turn.{lowestLine, allowedLine, masked as maskedOf, entryEffect, wakeEffect, controlled as controlledOf, withOperand, executed as executedOf, turnIs, ranOf, turnOf, instructed as instructedOf};
+
+// A turn worked out: what is done, and the reply; nothing is done where the reply is Stopped or ReservedPostbyte.
+pub struct Turn {
+    pub reply: Reply,
+    pub effect: Effect,
+}
+
+fn lowest_line(line: u8) -> u8
+    ensures { λ r. ⌜ r ≡ lowestLine line ⌝ }
+{
+    if line / 2 % 2 == 1 {
+        return 1;
+    }
+    if line / 4 % 2 == 1 {
+        return 2;
+    }
+    if line / 8 % 2 == 1 {
+        return 3;
+    }
+    if line / 16 % 2 == 1 {
+        return 4;
+    }
+    if line / 32 % 2 == 1 {
+        return 5;
+    }
+    if line / 64 % 2 == 1 {
+        return 6;
+    }
+    if line / 128 % 2 == 1 {
+        return 7;
+    }
+    8
+}
+
+// The line to be entered, or 8 where none is allowed.
+fn allowed_line(f: Flags, line: u8) -> u8
+    ensures { λ r. ⌜ r ≡ allowedLine f line ⌝ }
+{
+    let warned = (line / 1 % 2 == 1) & !f.x;
+    if warned {
+        return 0;
+    }
+    if f.i {
+        return 8;
+    }
+    lowest_line(line)
+}
+
+fn masked(k: u8, f: Flags) -> Flags
+    ensures { λ r. ⌜ r ≡ maskedOf k f ⌝ }
+{
+    if k == 0 {
+        return f.with_i(true).with_x(true);
+    }
+    f.with_i(true)
+}
+
+fn line_vector(k: u8) -> u16
+    requires { ⌜ k < 8 ⌝ }
+    ensures { λ r. ⌜ r ≡ lineVector k ⌝ }
+{
+    Machine::XIRQ_VECTOR - 2 * (k as u16)
+}
+
+// Line k is entered: the frame holds the flags as they were.
+fn entry(s: State, m: &[u8], k: u8) -> Effect
+    requires { ⌜ length (now m) ≡ 65536 ⌝ }
+    requires { ⌜ k < 8 ⌝ }
+    ensures { λ r. ⌜ r ≡ entryEffect s (now (m .entry)) k ⌝ }
+{
+    let f = s.flags;
+    stack::interrupt(s, m, line_vector(k), masked(k, f), Machine::ENTRY_COST)
+}
+
+// Line k ends a wait. The frame was pushed when the wait began.
+fn wake(s: State, m: &[u8], k: u8) -> Effect
+    requires { ⌜ length (now m) ≡ 65536 ⌝ }
+    requires { ⌜ k < 8 ⌝ }
+    ensures { λ r. ⌜ r ≡ wakeEffect s (now (m .entry)) k ⌝ }
+{
+    let f = s.flags;
+    let target = memory::read_word(m, line_vector(k));
+    let after = s.with_flags(masked(k, f))
+        .with_pc(target)
+        .with_waiting(false);
+    effect::quiet(after, Machine::WAKE_COST)
+}
+
+fn controlled(s: State, m: &[u8], d: Decoded) -> Effect
+    requires { ⌜ length (now m) ≡ 65536 ⌝ }
+    requires { ⌜ Faithful (now m) d ⌝ }
+    ensures { λ r. ⌜ r ≡ controlledOf s (now (m .entry)) d ⌝ }
+{
+    let f = s.flags;
+    if d.kind == kind::SWI {
+        return stack::interrupt(s, m, Machine::SWI_VECTOR, f.with_i(true), d.cost);
+    }
+    if d.kind == kind::TRAP {
+        return stack::interrupt(s, m, Machine::TRAP_VECTOR, f.with_i(true), d.cost);
+    }
+    flow::control(s, m, d)
+}
+
+// An instruction with an operand in memory: the operand's place is found once, and then the group is chosen.
+fn with_operand(group: u16, s: State, m: &[u8], d: Decoded) -> Effect
+    requires { ⌜ length (now m) ≡ 65536 ⌝ }
+    requires { ⌜ Faithful (now m) d ⌝ }
+    ensures { λ r. ⌜ r ≡ withOperand group s (now (m .entry)) d ⌝ }
+{
+    let place = operand::operand_place(s, m, d);
+    let t = place.state;
+    let a = place.address;
+    match group {
+        group::WITH_A => execute8::with_a(t, d.kind, memory::read_byte(m, a), d.cost),
+        group::WITH_B => execute8::with_b(t, d.kind, memory::read_byte(m, a), d.cost),
+        group::WITH_WORD => execute16::with_word(t, d.kind, memory::read_word(m, a), d.cost),
+        group::STORES => execute16::store(t, d.kind, d.cost, a),
+        group::IN_MEMORY => execute8::in_memory(t, d.kind, memory::read_byte(m, a), a, d.cost),
+        group::ADDRESSES => moves::addresses(t, d.kind, a, d.cost),
+        group::CHOICES => execute16::choose(t, m, d.kind, d.cost, a),
+        group::LOOKUPS => execute16::look_up(t, m, d.kind, d.cost, a),
+        _ => moves::bits(t, m, d.kind, a, d.cost),
+    }
+}
+
+fn executed(s: State, m: &[u8], d: Decoded) -> Effect
+    requires { ⌜ length (now m) ≡ 65536 ⌝ }
+    requires { ⌜ Faithful (now m) d ⌝ }
+    ensures { λ r. ⌜ r ≡ executedOf s (now (m .entry)) d ⌝ }
+{
+    let group = opcodes::group_of(d.kind);
+    match group {
+        group::SHORT_BRANCHES => flow::short_branch(s, d.kind, d.postbyte, d.cost, d.untaken),
+        group::LONG_BRANCHES => flow::long_branch(
+            s,
+            d.kind,
+            memory::read_word(m, d.at),
+            d.cost,
+            d.untaken,
+        ),
+        group::IN_A => execute8::in_a(s, d.kind, d.cost),
+        group::IN_B => execute8::in_b(s, d.kind, d.cost),
+        group::REGISTERS => execute16::registers(s, d.kind, d.postbyte, d.cost),
+        group::PRODUCTS => execute16::products(s, m, d),
+        group::STACK => stack::stack(s, m, d.kind, d.cost),
+        group::CONTROL => controlled(s, m, d),
+        group::MOVES => moves::moves(s, m, d),
+        _ => with_operand(group, s, m, d),
+    }
+}
+
+fn turn_is(reply: Reply, e: Effect) -> Turn
+    ensures { λ r. ⌜ r ≡ turnIs reply e ⌝ }
+{
+    Turn {
+        reply: reply,
+        effect: e,
+    }
+}
+
+fn ran(s: State, m: &[u8], d: Decoded) -> Turn
+    requires { ⌜ length (now m) ≡ 65536 ⌝ }
+    requires { ⌜ Faithful (now m) d ⌝ }
+    ensures { λ r. ⌜ r ≡ ranOf s (now (m .entry)) d ⌝ }
+{
+    turn_is(Reply::Done, executed(s.with_pc(d.next), m, d))
+}
+
+fn instructed(s: State, m: &[u8], fetched: Fetched) -> Turn
+    requires { ⌜ length (now m) ≡ 65536 ⌝ }
+    requires { ⌜ fetched ≡ fetchedOf (now m) (s .pc) ⌝ }
+    ensures { λ r. ⌜ r ≡ instructedOf s (now (m .entry)) fetched ⌝ }
+{
+    match fetched {
+        Fetched::Stop => turn_is(Reply::Stopped, effect::quiet(s, 0)),
+        Fetched::Reserved => turn_is(Reply::ReservedPostbyte, effect::quiet(s, 0)),
+        Fetched::Instruction(d) => ran(s, m, d),
+    }
+}
+
+// What the machine does next: nothing is changed.
+pub fn turn_at(map: &[u32; 512], grid: &[[u8; 8]; 18], s: State, m: &[u8], line: u8) -> Turn
+    requires { ⌜ now map ≡ opcodeMap ⌝ }
+    requires { ⌜ now grid ≡ gridOf ⌝ }
+    requires { ⌜ length (now m) ≡ 65536 ⌝ }
+    ensures { λ r. ⌜ r ≡ turnOf s (now (m .entry)) line ⌝ }
+{
+    let f = s.flags;
+    let standing = s.standing;
+    let k = allowed_line(f, line);
+    if k < 8 {
+        if standing.waiting {
+            return turn_is(Reply::Done, wake(s, m, k));
+        }
+        return turn_is(Reply::Done, entry(s, m, k));
+    }
+    if standing.waiting {
+        return turn_is(Reply::Done, effect::quiet(s, Machine::IDLE_COST));
+    }
+    instructed(s, m, decode::fetch(map, grid, m, s.pc))
+}

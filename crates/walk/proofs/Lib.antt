@@ -1,0 +1,12 @@
+pub mod Results
+pub mod Codes
+pub mod Registers
+pub mod Settings
+pub mod Places
+pub mod Execute8
+pub mod Execute16
+pub mod Flow
+pub mod Walk
+pub mod Turns
+pub mod Bounds
+pub mod Clock

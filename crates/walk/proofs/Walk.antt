@@ -1,0 +1,63 @@
+-- The one walk through every instruction: the list of the groups. On the definitions alone. Assumes nothing.
+use Prim.Native.Nat.{ℕ}
+use mathlib.Core.Path.{_≡_, refl}
+use mathlib.Core.Bool.{Bool, true, false}
+use mathlib.Core.List.{List}
+use lib.Dec.{eqb}
+use borrow.Author.Tests.{eqb-true}
+use Rattle.word.specs.Word.{pick}
+use Rattle.state.specs.declared.State.{State}
+use Rattle.state.specs.Ccr.{setI}
+use Rattle.opcodes.specs.Kind.{SWI, TRAP, groupOf, SHORT-BRANCHES, LONG-BRANCHES, WITH-A, WITH-B, WITH-WORD, STORES, IN-MEMORY, IN-A, IN-B}
+use Rattle.opcodes.specs.Kind.{REGISTERS, PRODUCTS, STACK, CONTROL, ADDRESSES, CHOICES, MOVES, LOOKUPS}
+use Rattle.decode.specs.declared.Decoded.{Decoded}
+use Rattle.effect.specs.declared.Effect.{Effect}
+use Rattle.turn.specs.Turn.{controlled, withOperand, executed}
+use Rattle.walk.specs.Walk.{Before, before, Gives, EveryInstructionGives}
+use Rattle.walk.specs.Walk.IsBranch.{short, long}
+use Rattle.walk.specs.Walk.Comes.{begins}
+use Rattle.walk.proofs.Settings.{if_does_else_}
+use Rattle.walk.proofs.Execute8.{with-a, with-b, in-memory, in-a, in-b}
+use Rattle.walk.proofs.Execute16.{with-word-operand, store, choose, registers, product, look-up}
+use Rattle.walk.proofs.Flow.{stack, interrupt, short-branch, long-branch, control, address, bits, move}
+
+-- one of two effects, where the first leans on the test that picked it
+infixr 0 if_branches_else_
+if_branches_else_ : {b : Before} (t : Bool) {e e′ : Effect} → (t ≡ true → Gives b e) → Gives b e′ → Gives b (pick t e e′)
+if_branches_else_ true first other = first refl
+if_branches_else_ false first other = other
+
+control-or-entry : (s : State) (m : List ℕ) (d : Decoded) → Gives (before s m d) (controlled s m d)
+unfolding controlled
+control-or-entry s m d =
+    if eqb (d .kind) SWI does interrupt begins _ (setI (s .flags) true) refl else
+    if eqb (d .kind) TRAP does interrupt begins _ (setI (s .flags) true) refl else
+    control s m d
+
+operand-taken : (group : ℕ) (s : State) (m : List ℕ) (d : Decoded) → Gives (before s m d) (withOperand group s m d)
+unfolding withOperand
+operand-taken group s m d =
+    if eqb group WITH-A does with-a s m d else
+    if eqb group WITH-B does with-b s m d else
+    if eqb group WITH-WORD does with-word-operand s m d else
+    if eqb group STORES does store s m d else
+    if eqb group IN-MEMORY does in-memory s m d else
+    if eqb group ADDRESSES does address s m d else
+    if eqb group CHOICES does choose s m d else
+    if eqb group LOOKUPS does look-up s m d else
+    bits s m d
+
+pub every-instruction-gives : EveryInstructionGives
+unfolding executed
+every-instruction-gives s m d =
+    let group = groupOf (d .kind) in
+    if eqb group SHORT-BRANCHES branches (λ e. short-branch s m d (short (eqb-true group SHORT-BRANCHES e))) else
+    if eqb group LONG-BRANCHES branches (λ e. long-branch s m d (long (eqb-true group LONG-BRANCHES e))) else
+    if eqb group IN-A does in-a s m d else
+    if eqb group IN-B does in-b s m d else
+    if eqb group REGISTERS does registers s m d else
+    if eqb group PRODUCTS does product s m d else
+    if eqb group STACK does stack s m d else
+    if eqb group CONTROL does control-or-entry s m d else
+    if eqb group MOVES does move s m d else
+    operand-taken group s m d

@@ -1,0 +1,22 @@
+-- What every step keeps to: it costs 1 to 13 cycles, and its store is short. Each law is proved under the same name in
+-- proofs/Bounds.antt.
+use Prim.Native.Nat.{ℕ, _≤_}
+use mathlib.Core.Path.{_≡_}
+use mathlib.Core.List.{List}
+use lib.ListN.{length}
+use Rattle.memory.specs.Memory.{AreBytes, bytesStored}
+use Rattle.state.specs.declared.State.{State}
+use Rattle.machine.specs.declared.Reply.the-variants.{Done}
+use Rattle.turn.specs.Turn.{turnOf}
+
+-- a step that is done costs 1 to 13 cycles
+abbrev pub EveryStepCosts : Type 0
+EveryStepCosts =
+    (s : State) (m : List ℕ) (line : ℕ) →
+    AreBytes m →
+    turnOf s m line .reply ≡ Done →
+    (1 ≤ turnOf s m line .effect .cost) × (turnOf s m line .effect .cost ≤ 13)
+
+-- the store of a step is a run of at most nine bytes
+abbrev pub EveryStoreIsShort : Type 0
+EveryStoreIsShort = (s : State) (m : List ℕ) (line : ℕ) → AreBytes m → length (bytesStored (turnOf s m line .effect .store)) ≤ 9

@@ -1,0 +1,20 @@
+-- The bench rows, by one computation. Assumes nothing.
+use mathlib.Core.Path.{refl}
+use Rattle.opcodes.specs.Map.{cellOf}
+use Rattle.opcodes.specs.Postbyte.{reservedOf, lengthOf, costOf, untakenOf}
+use Rattle.operand.specs.Indexed.{steppedPlace, constantPlace, accumulatorPlace, indexedPlace}
+use Rattle.operand.specs.Operand.{operandPlace}
+use Rattle.decode.specs.Decode.{fetchedOf}
+use Rattle.execute8.specs.Bytes.{accumulated, changed, withAEffect, inAEffect}
+use Rattle.execute16.specs.Registers.{firstRegisters, secondRegisters, registered, registersEffect}
+use Rattle.execute16.specs.Products.{multiplied, productEffect}
+use Rattle.flow.specs.Branches.{shortEffect}
+use Rattle.stack.specs.Stack.{interruptEffect}
+use Rattle.turn.specs.Turn.{allowedLine, controlled, withOperand, executed, instructed, turnOf}
+use Rattle.witness.specs.Bench.{given, BenchRows}
+
+pub bench-rows : BenchRows
+unfolding given turnOf allowedLine instructed fetchedOf cellOf reservedOf lengthOf costOf untakenOf steppedPlace
+    constantPlace accumulatorPlace indexedPlace operandPlace executed withOperand controlled accumulated changed withAEffect
+    inAEffect firstRegisters secondRegisters registered registersEffect multiplied productEffect shortEffect interruptEffect
+bench-rows = refl

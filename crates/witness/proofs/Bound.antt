@@ -1,0 +1,147 @@
+-- The bound is reached, by computation. Assumes nothing.
+use Prim.Native.Nat.{ℕ, zero, suc, _<_}
+use native.Mathlib.Omega.{arith}
+use mathlib.Core.Path.{_≡_, refl, _∙_, ap, subst}
+use mathlib.Core.Bool.{Bool, true, false}
+use mathlib.Core.List.{List, [], _∷_, map}
+use lib.Dec.{T, ltb, ltb→lt}
+use lib.ListN.{getD, List·getD-map}
+use borrow.Author.Tests.{le-leb}
+use Rattle.word.proofs.Table.{holds}
+use Rattle.memory.specs.Memory.{storeAll, AreBytes}
+use Rattle.schedule.specs.Schedule.{risingAfter, rising, inForce}
+use Rattle.opcodes.specs.Map.{cellOf}
+use Rattle.opcodes.specs.Postbyte.{reservedOf, lengthOf, costOf}
+use Rattle.decode.specs.Decode.{fetchedOf}
+use Rattle.execute16.specs.Registers.{secondRegisters, registered, registersEffect}
+use Rattle.execute16.specs.Products.{accumulateEffect, productEffect}
+use Rattle.stack.specs.Stack.{interruptEffect}
+use Rattle.state.specs.declared.State.{State}
+use Rattle.state.specs.State.{noState, withPc, withClock}
+use Rattle.machine.specs.Names.{numberOf}
+use Rattle.machine.specs.Reset.{resetOf}
+use Rattle.run.specs.Given.{Given, givenIs}
+use Rattle.run.specs.Run.{runRefusal, turnAt, nextState, nextMemory}
+use Rattle.turn.specs.Turn.{allowedLine, entryEffect, executed, instructed, turnOf}
+use Rattle.promises.specs.Steps.{afterSteps}
+use Rattle.promises.specs.Warning.{stateAt, StaysUp, FirstFrom, NoStopBefore}
+use Rattle.witness.specs.Bound.{slowest, TheBoundIsReached, RowFourteen}
+
+-- every number of the image is below 256: one test over all of it
+are-bytes : AreBytes slowest
+unfolding slowest
+are-bytes a =
+    let byte : ℕ → Bool = λ n. ltb n 256 in
+    ltb→lt _ _ (subst T (List·getD-map byte slowest a 0) (holds (map byte slowest) tt a))
+
+-- what is seen of a step: the number of its reply; and PC, the clock and X after it
+record Seen : Type 0 where
+  reply : ℕ
+  pc : ℕ
+  clock : ℕ
+  x : Bool
+
+abbrev nothing : Seen
+nothing = record { reply = 0; pc = 0; clock = 0; x = false }
+
+-- XIRQ up from cycle 2 on, and from cycle 101 on
+abbrev upAtTwo : Given
+upAtTwo = givenIs (2 ∷ []) (1 ∷ [])
+
+abbrev upAt101 : Given
+upAt101 = givenIs (101 ∷ []) (1 ∷ [])
+
+module _ (given : Given) where
+  -- steps one after another, each from where the one before it led, so that none is computed twice
+  trace : ℕ → State → List ℕ → List Seen
+  trace zero s m = []
+  trace (suc k) s m =
+      let next = nextState given s m in
+      record { reply = numberOf (turnAt given s m .reply); pc = next .pc; clock = next .clock; x = next .flags .x }
+      ∷ trace k next (nextMemory given s m)
+
+  -- the same step where the theorems have it
+  abbrev seen : ℕ → State → List ℕ → Seen
+  seen n s m =
+      let here = afterSteps n given s m in
+      let next = afterSteps (suc n) given s m .state in
+      record {
+        reply = numberOf (turnAt given (here .state) (here .memory) .reply);
+        pc = next .pc;
+        clock = next .clock;
+        x = next .flags .x;
+      }
+
+  seen-in : (n k : ℕ) (s : State) (m : List ℕ) → n < k → seen n s m ≡ getD (trace k s m) n nothing
+  unfolding trace afterSteps
+  seen-in n zero s m h = absurd (omega (arith, h))
+  seen-in zero (suc k) s m h = refl
+  seen-in (suc n) (suc k) s m h = seen-in n k (nextState given s m) (nextMemory given s m) (omega (arith, h))
+
+-- from reset, and in row 14
+abbrev fromReset : List Seen
+fromReset =
+    record { reply = 0; pc = 0x4002; clock = 1; x = false }
+    ∷ record { reply = 0; pc = 0x4006; clock = 14; x = false }
+    ∷ record { reply = 0; pc = 0x5000; clock = 23; x = true }
+    ∷ []
+
+abbrev inRowFourteen : List Seen
+inRowFourteen =
+    record { reply = 0; pc = 0x4006; clock = 113; x = false }
+    ∷ record { reply = 0; pc = 0x5000; clock = 122; x = true }
+    ∷ []
+
+computed :
+    (trace upAtTwo 3 (resetOf slowest) slowest ≡ fromReset)
+    × (trace upAt101 2 (withClock (withPc noState 0x4002) 100) slowest ≡ inRowFourteen)
+unfolding trace slowest storeAll inForce turnOf allowedLine entryEffect instructed fetchedOf cellOf reservedOf
+    lengthOf costOf executed secondRegisters registered registersEffect accumulateEffect productEffect interruptEffect
+computed = (refl, refl)
+
+pub row-fourteen : RowFourteen
+row-fourteen =
+    let entry = seen-in upAt101 1 2 _ _ (omega arith) ∙ ap (λ (l : List Seen). getD l 1 nothing) (computed .1) in
+    (ap (λ (v : Seen). v .pc) entry, ap (λ (v : Seen). v .clock) entry)
+
+-- the three steps from reset
+step : (n : ℕ) → n < 3 → seen upAtTwo n (resetOf slowest) slowest ≡ getD fromReset n nothing
+step n h = seen-in upAtTwo n 3 _ _ h ∙ ap (λ (l : List Seen). getD l n nothing) (computed .0)
+
+clock-after : (n : ℕ) → n < 3 → stateAt (suc n) slowest upAtTwo .clock ≡ getD fromReset n nothing .clock
+clock-after n h = ap (λ (v : Seen). v .clock) (step n h)
+
+not-refused : runRefusal (resetOf slowest) slowest upAtTwo 23 ≡ 0
+unfolding slowest rising risingAfter
+not-refused = refl
+
+stays-up : StaysUp 2 upAtTwo
+unfolding inForce
+stays-up t from to = rw (le-leb 2 t from)
+
+first-from : FirstFrom 2 2 slowest upAtTwo
+unfolding afterSteps
+first-from = (omega (arith, clock-after 1 (omega arith)), before)
+  where
+    before : (k : ℕ) → k < 2 → stateAt k slowest upAtTwo .clock < 2
+    before zero h = omega arith
+    before (suc zero) h = omega (arith, clock-after 0 (omega arith))
+    before (suc (suc k)) h = absurd (omega (arith, h))
+
+no-stop : NoStopBefore 2 slowest upAtTwo
+no-stop zero h = ap (λ (v : Seen). v .reply) (step 0 (omega arith))
+no-stop (suc zero) h = ap (λ (v : Seen). v .reply) (step 1 (omega arith))
+no-stop (suc (suc k)) h = absurd (omega (arith, h))
+
+pub the-bound-is-reached : TheBoundIsReached
+the-bound-is-reached =
+    record {
+      bytes = are-bytes;
+      free = not-refused;
+      up = stays-up;
+      first = first-from;
+      clear = ap (λ (v : Seen). v .x) (step 1 (omega arith));
+      on = no-stop;
+      budgeted = refl;
+      ends = clock-after 2 (omega arith);
+    }

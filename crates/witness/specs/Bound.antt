@@ -1,0 +1,44 @@
+-- The bound of the warning is reached: 21 cannot be made smaller. Proved under the same names in proofs/Bound.antt.
+use Prim.Native.Nat.{ℕ, _+_}
+use mathlib.Core.Path.{_≡_}
+use mathlib.Core.Bool.{false}
+use mathlib.Core.List.{List, [], _∷_, _++_}
+use lib.ListN.{replicate}
+use Rattle.state.specs.State.{noState, withPc, withClock}
+use Rattle.machine.specs.Reset.{resetOf}
+use Rattle.memory.specs.Memory.{AreBytes}
+use Rattle.run.specs.Given.{Given, givenIs}
+use Rattle.run.specs.Run.{runRefusal}
+use Rattle.promises.specs.Steps.{afterSteps}
+use Rattle.promises.specs.Warning.{stateAt, StaysUp, FirstFrom, NoStopBefore}
+
+-- An image: ANDCC #BF, which clears X, and EMACS 2000 at 4000; the XIRQ vector is 5000, the reset vector 4000. Numbers are hexadecimal.
+unfoldable pub slowest : List ℕ
+slowest =
+    replicate 0x4000 0
+    ++ (0x10 ∷ 0xBF ∷ 0x18 ∷ 0x12 ∷ 0x20 ∷ 0x00 ∷ [])
+    ++ replicate 0xBFEE 0
+    ++ (0x50 ∷ 0x00 ∷ [])
+    ++ replicate 8 0
+    ++ (0x40 ∷ 0x00 ∷ [])
+
+-- From reset with this image EMACS begins at cycle 1. Let XIRQ be up from cycle T = 2 on. Then all that the theorem of the warning
+-- supposes holds, and the entry ends at T + 21, no cycle sooner.
+pub record Reached (T n : ℕ) (m : List ℕ) (given : Given) (budget : ℕ) : Type 0 where
+  pub bytes : AreBytes m
+  pub free : runRefusal (resetOf m) m given budget ≡ 0
+  pub up : StaysUp T given
+  pub first : FirstFrom T n m given
+  pub clear : stateAt n m given .flags .x ≡ false
+  pub on : NoStopBefore n m given
+  pub budgeted : budget ≡ T + 21
+  pub ends : stateAt (n + 1) m given .clock ≡ T + 21
+
+abbrev pub TheBoundIsReached : Type 0
+TheBoundIsReached = Reached 2 2 slowest (givenIs (2 ∷ []) (1 ∷ [])) 23
+
+-- Document 01's row 14: X clear, EMACS begun at 100, XIRQ at 101: the handler begins at 122.
+abbrev pub RowFourteen : Type 0
+RowFourteen =
+    (afterSteps 2 (givenIs (101 ∷ []) (1 ∷ [])) (withClock (withPc noState 0x4002) 100) slowest .state .pc ≡ 0x5000)
+    × (afterSteps 2 (givenIs (101 ∷ []) (1 ∷ [])) (withClock (withPc noState 0x4002) 100) slowest .state .clock ≡ 122)
