@@ -3,15 +3,9 @@
 use opcodes::Cell;
 use opcodes::mode;
 ghost use mathlib.Core.Path.{_≡_};
-ghost use mathlib.Core.Bool.{_&&_};
 ghost use lib.ListN.{length};
-ghost use lib.Dec.{eqb};
-ghost use Rattle.word.specs.Word.{plusW};
-ghost use Rattle.memory.specs.Memory.{byteAt};
 ghost use Rattle.opcodes.specs.Grid.{grid as gridOf};
 ghost use Rattle.opcodes.specs.Map.{opcodeMap};
-ghost use Rattle.opcodes.specs.Mode.{ID-ID};
-ghost use Rattle.opcodes.specs.Postbyte.{reservedOf, costOf, formOf};
 ghost use Rattle.decode.specs.Decode.{opcodeIs, opcodeAt, secondReserved, decodedIs, fetchedOf};
 
 // An instruction: which it is, how it is addressed, the first byte after its opcode, the address after all of it, its
@@ -105,9 +99,10 @@ pub fn fetch(map: &[u32; 512], grid: &[[u8; 8]; 18], m: &[u8], pc: u16) -> Fetch
     let postbyte = memory::read_byte(m, at);
     let form = opcodes::form_of(postbyte);
     let cost = opcodes::full_cost(grid, c, form);
-    let first = opcodes::reserved(c, postbyte, cost);
-    let second = second_reserved(grid, m, c, at);
-    if first | second {
+    if opcodes::reserved(c, postbyte, cost) {
+        return Fetched::Reserved;
+    }
+    if second_reserved(grid, m, c, at) {
         return Fetched::Reserved;
     }
     Fetched::Instruction(decoded_is(pc, c, at, postbyte, form, cost))

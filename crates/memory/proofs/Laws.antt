@@ -1,17 +1,16 @@
 -- The laws of a store, on the definitions alone. Assumes nothing.
-use Prim.Native.Nat.{ℕ, zero, suc, _+_, _-_, _<_, _≤_, min}
+use Prim.Native.Nat.{ℕ, zero, suc, _+_, _*_, _<_, _≤_}
 use native.Mathlib.Omega.{arith}
 use mathlib.Core.Path.{_≡_, refl, sym, _∙_, ap}
 use mathlib.Core.List.{List, [], _∷_}
-use lib.ListN.{length, getD, set, take, drop, length-set}
+use lib.ListN.{length, getD, set, length-set}
 use lib.Dec.{ltb}
 use borrow.Author.Tests.{lt-ltb, le-ltb}
-use lib.Seq.{getD-set-same, getD-set-other, drop-cons, take-all, length-take-le, getD-take, drop-length}
-use native.Mathlib.Nat.{min-eq-left, min-eq-right}
-use native.Mathlib.Numerals.{add-one}
+use lib.Seq.{getD-set-same, getD-set-other, ext-getD}
 use native.Mathlib.Decide.{decLe, decLt, ℕ-discrete}
-use Rattle.word.specs.Word.{pick, plusW, minusW}
-use Rattle.memory.specs.Memory.{byteAt, storeAll, StoresExactly}
+use Rattle.word.specs.Word.{pick, highOf, lowOf, wordOf, longOf, plusW, minusW}
+use Rattle.memory.specs.declared.Store.{Store}
+use Rattle.memory.specs.Memory.{byteAt, byteOf, bytesOf, bytesStored, storeAll, committed, noStore, AreBytes, StoresExactly, StoreByByte}
 
 -- a store changes no length
 pub store-keeps : (m : List ℕ) (a : ℕ) (run : List ℕ) → length (storeAll m a run) ≡ length m
@@ -20,62 +19,75 @@ store-keeps m a [] = refl
 store-keeps m a (b ∷ bs) = store-keeps (set m a b) _ bs ∙ simp length-set
 
 -- nothing stored is the memory
-pub store-none : (m : List ℕ) (a : ℕ) → storeAll m a [] ≡ m
-unfolding storeAll
-store-none m a = refl
+pub store-none : (m : List ℕ) → committed m noStore ≡ m
+unfolding storeAll bytesOf
+store-none m = refl
 
--- what is left of a run from place i on: its byte there, and then the rest
-pub store-turn : (m : List ℕ) (a : ℕ) (run : List ℕ) (i : ℕ) → i < length run → storeAll m a (drop i run) ≡ storeAll (set m a (getD run i 0)) (plusW a 1) (drop (suc i) run)
-unfolding storeAll
-store-turn m a run i h = rw (drop-cons run i 0 h)
-
--- a count past nine takes the nine
-pub take-nine : (bytes : List ℕ) (n : ℕ) → length bytes ≡ 9 → take (min n 9) bytes ≡ take n bytes
-take-nine bytes n h = go (decLe n 9)
-  where
-    go : Dec (n ≤ 9) → take (min n 9) bytes ≡ take n bytes
-    go (yes l) = rw (min-eq-left l)
-    go (no r) =
-        let l : 9 ≤ n = omega arith in
-        rw (min-eq-right l, take-all 9 bytes (omega arith), take-all n bytes (omega arith))
-
--- What holds at each turn of the loop that stores a run: what is left to store gives the whole store.
-pub record Storing (m₀ : List ℕ) (start : ℕ) (bytes : List ℕ) (end : ℕ) (m : List ℕ) (at i : ℕ) : Type 0 where
+-- What holds at each turn of the loop that stores a number: what is left to store gives the whole store.
+pub record Storing (m₀ : List ℕ) (start count number : ℕ) (m : List ℕ) (at left : ℕ) : Type 0 where
   pub whole : length m ≡ 65536
   pub inside : at < 65536
-  pub upto : i ≤ end
-  pub end-nine : end ≤ 9
-  pub nine : length bytes ≡ 9
-  pub rest : storeAll m at (drop i (take end bytes)) ≡ storeAll m₀ start (take end bytes)
+  pub few : left ≤ 8
+  pub rest : storeAll m at (bytesOf left number) ≡ storeAll m₀ start (bytesOf count number)
 
 pub stored-one :
-    {m₀ : List ℕ} {start : ℕ} {bytes : List ℕ} {end : ℕ} {m : List ℕ} {at i : ℕ} →
-    Storing m₀ start bytes end m at i →
-    i < end →
-    Storing m₀ start bytes end (set m at (getD bytes i 0)) (plusW at 1) (i + 1)
-stored-one {m₀} {start} {bytes} {end} {m} {at} {i} s h =
+    {m₀ : List ℕ} {start count number : ℕ} {m : List ℕ} {at left k : ℕ} →
+    left ≡ suc k →
+    Storing m₀ start count number m at left →
+    Storing m₀ start count number (set m at (byteOf k number)) (plusW at 1) k
+unfolding storeAll bytesOf
+stored-one {number = number} {m = m} {at = at} e s =
     record {
       whole = simp length-set (s .whole);
       inside = omega arith;
-      upto = omega arith;
-      end-nine = s .end-nine;
-      nine = s .nine;
-      rest =
-          let most : end ≤ length bytes = omega (arith, s .end-nine, s .nine) in
-          let below : i < length (take end bytes) = rw (length-take-le end bytes most) h in
-          rw (add-one i, ← getD-take end bytes i 0 h) (sym (store-turn m at (take end bytes) i below) ∙ s .rest);
+      few = omega (arith, e, s .few);
+      rest = sym (ap (λ left. storeAll m at (bytesOf left number)) e) ∙ s .rest;
     }
 
 pub stored-all :
-    {m₀ : List ℕ} {start : ℕ} {bytes : List ℕ} {end : ℕ} {m : List ℕ} {at i : ℕ} →
-    Storing m₀ start bytes end m at i →
-    end ≤ i →
-    m ≡ storeAll m₀ start (take end bytes)
-stored-all {m₀} {start} {bytes} {end} {m} {at} {i} s h =
-    let most : end ≤ length bytes = omega (arith, s .end-nine, s .nine) in
-    let all : i ≡ length (take end bytes) = rw (length-take-le end bytes most) (omega (arith, s .upto)) in
-    let none : drop i (take end bytes) ≡ [] = rw (all, drop-length) in
-    sym (store-none m at) ∙ (rw none at (s .rest))
+    {m₀ : List ℕ} {start count number : ℕ} {m : List ℕ} {at left : ℕ} →
+    Storing m₀ start count number m at left →
+    left ≤ 0 →
+    m ≡ storeAll m₀ start (bytesOf count number)
+unfolding storeAll bytesOf
+stored-all {left = zero} s h = s .rest
+stored-all {left = suc k} s h = absurd (omega (arith, h))
+
+-- a byte stored before others
+pub store-first : (m : List ℕ) (a b : ℕ) (bs : List ℕ) → storeAll m a (b ∷ bs) ≡ storeAll (set m a b) (plusW a 1) bs
+unfolding storeAll
+store-first m a b bs = refl
+
+-- so many bytes of a number are so many, and each is one
+bytes-count : (k n : ℕ) → length (bytesOf k n) ≡ k
+unfolding bytesOf
+bytes-count zero n = refl
+bytes-count (suc k) n = ap suc (bytes-count k n)
+
+bytes-below : (k n : ℕ) → AreBytes (bytesOf k n)
+unfolding bytesOf
+bytes-below zero n a = omega arith
+bytes-below (suc k) n zero = omega arith
+bytes-below (suc k) n (suc a) = bytes-below k n a
+
+-- what is stored is at most nine bytes
+pub stored-short : (w : Store) → length (bytesStored w) ≤ 9
+stored-short w = go (decLt 8 (w .count))
+  where
+    go : Dec (8 < w .count) → length (bytesStored w) ≤ 9
+    go (yes h) = rw (lt-ltb 8 (w .count) h) (omega (arith, bytes-count 8 (w .number)))
+    go (no h) = let l : w .count ≤ 8 = omega arith in rw (le-ltb 8 (w .count) l) (omega (arith, bytes-count (w .count) (w .number)))
+
+pub stored-bytes : (w : Store) → w .first < 256 → AreBytes (bytesStored w)
+stored-bytes w first = go (decLt 8 (w .count))
+  where
+    nine : AreBytes (w .first ∷ bytesOf 8 (w .number))
+    nine zero = first
+    nine (suc a) = bytes-below 8 (w .number) a
+
+    go : Dec (8 < w .count) → AreBytes (bytesStored w)
+    go (yes h) a = rw (lt-ltb 8 (w .count) h) (nine a)
+    go (no h) a = let l : w .count ≤ 8 = omega arith in rw (le-ltb 8 (w .count) l) (bytes-below (w .count) (w .number) a)
 
 -- one byte further on in the run is one byte further on from its start
 shift : (d n b : ℕ) (bs : List ℕ) (x : ℕ) → pick (ltb d n) (getD bs d 0) x ≡ pick (ltb (suc d) (suc n)) (getD (b ∷ bs) (suc d) 0) x
@@ -104,3 +116,76 @@ stores-exactly m start (b ∷ bs) a whole in-start short in-a =
     go (no n) =
         let next : minusW a start ≡ suc (minusW a (plusW start 1)) = omega arith in
         rw (next, getD-set-other m start a b 0 n) (shift (minusW a (plusW start 1)) (length bs) b bs (byteAt m a))
+
+-- the eight bytes of the number that they make
+eight :
+    (b7 b6 b5 b4 b3 b2 b1 b0 : ℕ) →
+    b7 < 256 → b6 < 256 → b5 < 256 → b4 < 256 → b3 < 256 → b2 < 256 → b1 < 256 → b0 < 256 →
+    bytesOf 8 (longOf (wordOf b7 b6) (wordOf b5 b4) * 4294967296 + longOf (wordOf b3 b2) (wordOf b1 b0))
+    ≡ b7 ∷ b6 ∷ b5 ∷ b4 ∷ b3 ∷ b2 ∷ b1 ∷ b0 ∷ []
+unfolding bytesOf
+eight b7 b6 b5 b4 b3 b2 b1 b0 h7 h6 h5 h4 h3 h2 h1 h0 =
+    let n = longOf (wordOf b7 b6) (wordOf b5 b4) * 4294967296 + longOf (wordOf b3 b2) (wordOf b1 b0) in
+    let is7 : byteOf 7 n ≡ b7 = omega arith in
+    let is6 : byteOf 6 n ≡ b6 = omega arith in
+    let is5 : byteOf 5 n ≡ b5 = omega arith in
+    let is4 : byteOf 4 n ≡ b4 = omega arith in
+    let is3 : byteOf 3 n ≡ b3 = omega arith in
+    let is2 : byteOf 2 n ≡ b2 = omega arith in
+    let is1 : byteOf 1 n ≡ b1 = omega arith in
+    let is0 : byteOf 0 n ≡ b0 = omega arith in
+    λ i. is7 i ∷ is6 i ∷ is5 i ∷ is4 i ∷ is3 i ∷ is2 i ∷ is1 i ∷ is0 i ∷ []
+
+-- a list of nine, number by number
+nine-listed :
+    (bs : List ℕ) → length bs ≡ 9 →
+    byteAt bs 0 ∷ byteAt bs 1 ∷ byteAt bs 2 ∷ byteAt bs 3 ∷ byteAt bs 4 ∷ byteAt bs 5 ∷ byteAt bs 6 ∷ byteAt bs 7 ∷ byteAt bs 8 ∷ []
+    ≡ bs
+nine-listed bs nine = ext-getD 0 _ bs (sym nine) each
+  where
+    each :
+        (i : ℕ) → i < 9 →
+        getD
+        (byteAt bs 0 ∷ byteAt bs 1 ∷ byteAt bs 2 ∷ byteAt bs 3 ∷ byteAt bs 4 ∷ byteAt bs 5 ∷ byteAt bs 6 ∷ byteAt bs 7 ∷ byteAt bs 8 ∷ [])
+        i 0
+        ≡ getD bs i 0
+    each zero h = refl
+    each (suc zero) h = refl
+    each (suc (suc zero)) h = refl
+    each (suc (suc (suc zero))) h = refl
+    each (suc (suc (suc (suc zero)))) h = refl
+    each (suc (suc (suc (suc (suc zero))))) h = refl
+    each (suc (suc (suc (suc (suc (suc zero)))))) h = refl
+    each (suc (suc (suc (suc (suc (suc (suc zero))))))) h = refl
+    each (suc (suc (suc (suc (suc (suc (suc (suc zero)))))))) h = refl
+    each (suc (suc (suc (suc (suc (suc (suc (suc (suc i))))))))) h = absurd (omega (arith, h))
+
+pub store-by-byte : StoreByByte
+unfolding bytesOf
+store-by-byte =
+    record {
+      none = refl;
+      byte = byte;
+      word = word;
+      words = words;
+      nine = λ a bs nine h. ap (λ rest. byteAt bs 0 ∷ rest) (eight _ _ _ _ _ _ _ _ (h 1) (h 2) (h 3) (h 4) (h 5) (h 6) (h 7) (h 8)) ∙ nine-listed bs nine;
+    }
+  where
+    byte : (a b : ℕ) → b < 256 → byteOf 0 b ∷ [] ≡ b ∷ []
+    byte a b h = let is : byteOf 0 b ≡ b = omega (arith, h) in λ i. is i ∷ []
+
+    word : (a w : ℕ) → w < 65536 → byteOf 1 w ∷ byteOf 0 w ∷ [] ≡ highOf w ∷ lowOf w ∷ []
+    word a w h =
+        let is1 : byteOf 1 w ≡ highOf w = omega (arith, h) in
+        let is0 : byteOf 0 w ≡ lowOf w = omega arith in
+        λ i. is1 i ∷ is0 i ∷ []
+
+    words :
+        (a w u : ℕ) → w < 65536 → u < 65536 →
+        bytesOf 4 (longOf w u) ≡ highOf w ∷ lowOf w ∷ highOf u ∷ lowOf u ∷ []
+    words a w u h k =
+        let is3 : byteOf 3 (longOf w u) ≡ highOf w = omega (arith, h, k) in
+        let is2 : byteOf 2 (longOf w u) ≡ lowOf w = omega (arith, h, k) in
+        let is1 : byteOf 1 (longOf w u) ≡ highOf u = omega (arith, h, k) in
+        let is0 : byteOf 0 (longOf w u) ≡ lowOf u = omega (arith, h, k) in
+        λ i. is3 i ∷ is2 i ∷ is1 i ∷ is0 i ∷ []

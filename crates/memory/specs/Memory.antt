@@ -1,10 +1,10 @@
 -- The memory: 65,536 bytes, each at its address (source document 002, section 2.3, p. 2-5; document 01, "Addresses").
-use Prim.Native.Nat.{ℕ, zero, suc, _<_, _≤_}
+use Prim.Native.Nat.{ℕ, zero, suc, _+_, _*_, _/_, _%_, _^_, _<_, _≤_, min}
 use mathlib.Core.Path.{_≡_}
 use mathlib.Core.List.{List, [], _∷_}
-use lib.ListN.{length, getD, set, take}
+use lib.ListN.{length, getD, set}
 use lib.Dec.{ltb}
-use Rattle.word.specs.Word.{pick, wordOf, highOf, lowOf, plusW, minusW}
+use Rattle.word.specs.Word.{pick, wordOf, highOf, lowOf, longOf, plusW, minusW}
 use Rattle.memory.specs.declared.Store.{Store}
 
 -- the byte at an address
@@ -20,9 +20,22 @@ unfoldable pub storeAll : List ℕ → ℕ → List ℕ → List ℕ
 storeAll m a [] = m
 storeAll m a (b ∷ bs) = storeAll (set m a b) (plusW a 1) bs
 
--- the bytes of a store: as many of its nine places as it counts
+-- byte k of a number, byte 0 the lowest
+abbrev pub byteOf : ℕ → ℕ → ℕ
+byteOf k n = n / 2 ^ (8 * k) % 256
+
+-- the k lowest bytes of a number, the highest of them first, as a number stands in the memory
+unfoldable pub bytesOf : ℕ → ℕ → List ℕ
+bytesOf zero n = []
+bytesOf (suc k) n = byteOf k n ∷ bytesOf k n
+
+-- the bytes of a store: the lowest of its number, as many as it counts; of more than eight the first stands apart
 abbrev pub bytesStored : Store → List ℕ
-bytesStored w = take (w .count) (w .bytes)
+bytesStored w = pick (ltb 8 (w .count)) (w .first ∷ bytesOf 8 (w .number)) (bytesOf (w .count) (w .number))
+
+-- a store cuts nothing off: its number has no more bytes than are stored
+abbrev pub IsWhole : Store → Type 0
+IsWhole w = w .number < 2 ^ (8 * min (w .count) 8)
 
 -- the memory after a store
 abbrev pub committed : List ℕ → Store → List ℕ
@@ -42,18 +55,36 @@ StoresExactly =
     ≡ pick (ltb (minusW a start) (length run)) (getD run (minusW a start) 0) (byteAt m a)
 
 -- the stores that instructions make: none, a byte, a word, two words, and the nine bytes of a frame
+abbrev pub storeNumber : ℕ → ℕ → ℕ → Store
+storeNumber a count n = record { at = a; count = count; first = 0; number = n }
+
 abbrev pub noStore : Store
-noStore = record { at = 0; count = 0; bytes = 0 ∷ 0 ∷ 0 ∷ 0 ∷ 0 ∷ 0 ∷ 0 ∷ 0 ∷ 0 ∷ [] }
+noStore = storeNumber 0 0 0
 
 abbrev pub storeByte : ℕ → ℕ → Store
-storeByte a b = record { at = a; count = 1; bytes = b ∷ 0 ∷ 0 ∷ 0 ∷ 0 ∷ 0 ∷ 0 ∷ 0 ∷ 0 ∷ [] }
+storeByte a b = storeNumber a 1 b
 
 abbrev pub storeWord : ℕ → ℕ → Store
-storeWord a w = record { at = a; count = 2; bytes = highOf w ∷ lowOf w ∷ 0 ∷ 0 ∷ 0 ∷ 0 ∷ 0 ∷ 0 ∷ 0 ∷ [] }
+storeWord a w = storeNumber a 2 w
 
 abbrev pub storeWords : ℕ → ℕ → ℕ → Store
-storeWords a w u =
-    record { at = a; count = 4; bytes = highOf w ∷ lowOf w ∷ highOf u ∷ lowOf u ∷ 0 ∷ 0 ∷ 0 ∷ 0 ∷ 0 ∷ [] }
+storeWords a w u = storeNumber a 4 (longOf w u)
 
 abbrev pub storeNine : ℕ → List ℕ → Store
-storeNine a bs = record { at = a; count = 9; bytes = bs }
+storeNine a bs =
+    record {
+      at = a;
+      count = 9;
+      first = byteAt bs 0;
+      number = longOf (wordAt bs 1) (wordAt bs 3) * 4294967296 + longOf (wordAt bs 5) (wordAt bs 7);
+    }
+
+-- what each of them stores, byte by byte, where it is given a byte, words, and nine bytes
+pub record StoreByByte : Type 0 where
+  pub none : bytesStored noStore ≡ []
+  pub byte : (a b : ℕ) → b < 256 → bytesStored (storeByte a b) ≡ b ∷ []
+  pub word : (a w : ℕ) → w < 65536 → bytesStored (storeWord a w) ≡ highOf w ∷ lowOf w ∷ []
+  pub words :
+      (a w u : ℕ) → w < 65536 → u < 65536 →
+      bytesStored (storeWords a w u) ≡ highOf w ∷ lowOf w ∷ highOf u ∷ lowOf u ∷ []
+  pub nine : (a : ℕ) (bs : List ℕ) → length bs ≡ 9 → AreBytes bs → bytesStored (storeNine a bs) ≡ bs

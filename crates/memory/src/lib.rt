@@ -1,72 +1,74 @@
 // The memory: 65,536 lent bytes. What reads it takes a `&[u8]`; one function, `commit`, writes it.
 ghost use mathlib.Core.Path.{_≡_};
-ghost use Prim.Native.Nat.{min};
-ghost use lib.ListN.{length, take};
+ghost use Prim.Native.Nat.{_<_, _≤_};
+ghost use lib.ListN.{length};
 ghost use Rattle.word.specs.Word.{plusW};
-ghost use Rattle.memory.specs.Memory.{byteAt, wordAt, storeAll, committed, noStore, storeByte, storeWord, storeWords, storeNine};
+ghost use Rattle.memory.specs.Memory.{byteAt, wordAt, byteOf, bytesOf, storeAll, committed, storeNumber, noStore, storeByte, storeWord, storeWords, storeNine};
 
-// What one step writes: `count` bytes, at most nine, from the address `at` upward.
+// What one step writes, from the address `at` upward: the `count` lowest bytes of `number`, the highest of them first. Of more than
+// eight the first is `first`, and the other eight are those of `number`. A store is numbers and no array of bytes because the compiler
+// takes an array apart: each of its bytes would be a value of its own in every step (docs/SPEED.md).
 pub struct Store {
     pub at: u16,
     pub count: u8,
-    pub bytes: [u8; 9],
+    pub first: u8,
+    pub number: u64,
 }
 
 impl Store {
+    // At most eight bytes, those of a number.
+    fn number(at: u16, count: u8, number: u64) -> Self
+        ensures { λ r. ⌜ r ≡ storeNumber at count number ⌝ }
+    {
+        Store {
+            at: at,
+            count: count,
+            first: 0,
+            number: number,
+        }
+    }
+
     pub fn none() -> Self
         ensures { λ r. ⌜ r ≡ noStore ⌝ }
     {
-        Store {
-            at: 0,
-            count: 0,
-            bytes: [0, 0, 0, 0, 0, 0, 0, 0, 0],
-        }
+        Store::number(0, 0, 0)
     }
 
     pub fn byte(at: u16, b: u8) -> Self
         ensures { λ r. ⌜ r ≡ storeByte at b ⌝ }
     {
-        Store {
-            at: at,
-            count: 1,
-            bytes: [b, 0, 0, 0, 0, 0, 0, 0, 0],
-        }
+        Store::number(at, 1, b as u64)
     }
 
     pub fn word(at: u16, w: u16) -> Self
         ensures { λ r. ⌜ r ≡ storeWord at w ⌝ }
     {
-        let h = word::high(w);
-        let l = word::low(w);
-        Store {
-            at: at,
-            count: 2,
-            bytes: [h, l, 0, 0, 0, 0, 0, 0, 0],
-        }
+        Store::number(at, 2, w as u64)
     }
 
     // Two words, the first at the lower address.
     pub fn words(at: u16, first: u16, second: u16) -> Self
         ensures { λ r. ⌜ r ≡ storeWords at first second ⌝ }
     {
-        let h = word::high(first);
-        let l = word::low(first);
-        let k = word::high(second);
-        let j = word::low(second);
-        Store {
-            at: at,
-            count: 4,
-            bytes: [h, l, k, j, 0, 0, 0, 0, 0],
-        }
+        Store::number(at, 4, word::long(first, second) as u64)
     }
 
     pub fn nine(at: u16, bytes: [u8; 9]) -> Self
         ensures { λ r. ⌜ r ≡ storeNine at bytes ⌝ }
     {
+        let high = word::long(
+            word::word(bytes[1], bytes[2]),
+            word::word(bytes[3], bytes[4]),
+        );
+        let low = word::long(
+            word::word(bytes[5], bytes[6]),
+            word::word(bytes[7], bytes[8]),
+        );
         Store {
             at: at,
             count: 9,
-            bytes: bytes,
+            first: bytes[0],
+            number: (high as u64) * 4294967296 + low as u64,
         }
     }
 }
@@ -94,24 +96,26 @@ pub fn read_word(m: &[u8], at: u16) -> u16
     word::word(high, low)
 }
 
-fn at_most_nine(n: u8) -> u8
-    ensures { λ r. ⌜ r ≡ min n 9 ⌝ }
+// Byte k of a number, byte 0 the lowest.
+fn byte_of(number: u64, k: u8) -> u8
+    requires { ⌜ k < 8 ⌝ }
+    ensures { λ r. ⌜ r ≡ byteOf k number ⌝ }
 {
-    if n < 9 { n } else { 9 }
+    ((number >> (8 * (k as u32))) % 256) as u8
 }
 
 // Byte by byte, so that a run over the top of the memory goes on at address 0.
-fn store_run(m: &mut [u8], start: u16, count: u8, bytes: [u8; 9])
+fn store_number(m: &mut [u8], start: u16, count: u8, number: u64)
     requires { ⌜ length (now m) ≡ 65536 ⌝ }
-    ensures { λ _. ⌜ now (m .exit) ≡ storeAll (now (m .entry)) start (take count bytes) ⌝ }
+    requires { ⌜ count ≤ 8 ⌝ }
+    ensures { λ _. ⌜ now (m .exit) ≡ storeAll (now (m .entry)) start (bytesOf count number) ⌝ }
 {
-    let end = at_most_nine(count);
     let mut at = start;
-    let mut i: u8 = 0;
-    while i < end {
-        m[at as usize] = bytes[i as usize];
+    let mut left = count;
+    while left > 0 {
+        left -= 1;
+        m[at as usize] = byte_of(number, left);
         at = next(at);
-        i += 1;
     }
 }
 
@@ -120,6 +124,10 @@ pub fn commit(m: &mut [u8], w: Store)
     requires { ⌜ length (now m) ≡ 65536 ⌝ }
     ensures { λ _. ⌜ now (m .exit) ≡ committed (now (m .entry)) w ⌝ }
 {
-    let bytes = w.bytes;
-    store_run(m, w.at, w.count, bytes);
+    if w.count > 8 {
+        m[w.at as usize] = w.first;
+        store_number(m, next(w.at), 8, w.number);
+    } else {
+        store_number(m, w.at, w.count, w.number);
+    }
 }

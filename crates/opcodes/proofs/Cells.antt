@@ -4,16 +4,18 @@ use mathlib.Core.Path.{_≡_, refl}
 use mathlib.Core.Bool.{Bool, true, false, _&&_, not}
 use mathlib.Core.List.{List, [], _∷_}
 use native.Mathlib.Omega.{arith}
-use lib.Dec.{T, leb, eqb, eqb→eq, leb→le}
+use lib.Dec.{T, leb, ltb, eqb, eqb→eq, leb→le}
+use borrow.Author.Tests.{lt-ltb}
 use lib.ListN.{length, getD, List·getD-eq-default}
 use native.Mathlib.Decide.{decLt}
 use Rattle.word.specs.Word.{pick}
 use Rattle.word.proofs.Table.{at-entry, at-number, everyBelow, all, holds, same, same-is}
 use Rattle.opcodes.specs.declared.Cell.{Cell}
 use Rattle.opcodes.specs.Kind.{TRAP, PAGE2, TFR/EXG, LOOP}
+use Rattle.opcodes.specs.Mode.{ID}
 use Rattle.opcodes.specs.Grid.{families, familyOf, grid, gridAt}
 use Rattle.opcodes.specs.Map.{pageOne, pageTwo, cellOf, cellNumber, opcodeMap}
-use Rattle.opcodes.specs.Postbyte.{formOf, extensionOf, indexedOf, formReserved, reservedOf, lengthIn, lengthOf, costIn, costOf, untakenOf}
+use Rattle.opcodes.specs.Postbyte.{IDX, formOf, extensionOf, indexedOf, formReserved, reservedOf, lengthIn, lengthOf, costIn, costOf, untakenOf}
 use Rattle.opcodes.specs.Rules.{stopsOf, stopCell, trapCell, prebyteCell, runs, regular, column, EveryCell, EveryInstruction}
 use Rattle.opcodes.proofs.Postbytes.{one-of-five}
 
@@ -112,6 +114,7 @@ bounds k j =
     ∷ asked k j (leb 1 (lengthIn c j))
     ∷ asked k j (leb (lengthIn c j) 6)
     ∷ pick (indexedOf c) (not (eqb (c .kind) TFR/EXG) && not (eqb (c .kind) LOOP)) true
+    ∷ asked k j (pick (ltb ID (c .mode)) (eqb j IDX) true)
     ∷ []
 
 -- the one test over every cell in every form
@@ -154,4 +157,5 @@ every-instruction k p h i r n =
       untaken-high = leb→le _ 13 (said k j _ r m (pass 3));
       length-low = leb→le 1 _ (said k j _ r m (pass 4));
       length-high = leb→le _ 6 (said k j _ r m (pass 5));
+      moved = λ past. eqb→eq _ _ (rw (lt-ltb _ _ past) at (said k j _ r m (pass 7)));
     }

@@ -10,7 +10,7 @@ use Rattle.opcodes.specs.Kind.{TRAP, PAGE2, STOP}
 use Rattle.opcodes.specs.Mode.{EX, ID}
 use Rattle.opcodes.specs.Grid.{gridAt, NONE}
 use Rattle.opcodes.specs.Map.{cellOf}
-use Rattle.opcodes.specs.Postbyte.{indexedOf, reservedOf, lengthOf, costOf, untakenOf}
+use Rattle.opcodes.specs.Postbyte.{IDX, formOf, indexedOf, reservedOf, lengthOf, costOf, untakenOf}
 
 -- the kinds that stop the machine are the first of the numbering, up to STOP
 abbrev pub stopsOf : Cell → Bool
@@ -67,7 +67,8 @@ pub record Ruled (k : ℕ) : Type 0 where
 abbrev pub EveryCell : Type 0
 EveryCell = (k : ℕ) → k < 512 → Ruled k
 
--- An instruction with a postbyte that is not reserved costs 1 to 13 cycles, taken or not, and is 1 to 6 bytes long.
+-- An instruction with a postbyte that is not reserved costs 1 to 13 cycles, taken or not, and is 1 to 6 bytes long. Of a move, which
+-- has a mode past ID, such a postbyte has the form IDX (document 01, "Reserved").
 pub record Bounded (k postbyte : ℕ) : Type 0 where
   pub cost-low : 1 ≤ costOf (cellOf k) postbyte
   pub cost-high : costOf (cellOf k) postbyte ≤ 13
@@ -75,6 +76,7 @@ pub record Bounded (k postbyte : ℕ) : Type 0 where
   pub untaken-high : untakenOf (cellOf k) ≤ 13
   pub length-low : 1 ≤ lengthOf (cellOf k) postbyte
   pub length-high : lengthOf (cellOf k) postbyte ≤ 6
+  pub moved : ID < cellOf k .mode → formOf postbyte ≡ IDX
 
 abbrev pub EveryInstruction : Type 0
 EveryInstruction =

@@ -1,7 +1,7 @@
 -- The place that a postbyte names, by its bits and by its form. On the definitions alone. Assumes nothing.
 use Prim.Native.Nat.{ℕ, _/_, _%_}
 use mathlib.Core.Path.{_≡_, refl}
-use mathlib.Core.Bool.{Bool, true, false, not}
+use mathlib.Core.Bool.{Bool, true, false, not, _&&_}
 use lib.Dec.{eqb}
 use Rattle.word.specs.Word.{pick, bitOf}
 use Rattle.memory.specs.Memory.{byteAt}
@@ -15,8 +15,9 @@ agree :
     (let form = pick (not b5) IDX
     (pick (not top) IDX
     (pick (not b2) (pick (not b1) IDX1 (pick (not b0) IDX2 [IDX2])) (pick d [D:IDX] IDX))) in
-    pick (eqb form IDX) (pick b5 (pick top plain stepped) five)
-    (pick (eqb form IDX1) nine (pick (eqb form IDX2) sixteen (pick (eqb form [D:IDX]) pointer through))))
+    pick (b5 && not top) stepped
+    (pick (eqb form IDX) (pick b5 plain five)
+    (pick (eqb form IDX1) nine (pick (eqb form IDX2) sixteen (pick (eqb form [D:IDX]) pointer through)))))
     ≡ pick b5 (pick top (pick b2 (pick d pointer plain) (pick b1 (pick b0 through sixteen) nine)) stepped) five
 agree false top b2 b1 b0 d five stepped plain pointer nine sixteen through = refl
 agree true false b2 b1 b0 d five stepped plain pointer nine sixteen through = refl

@@ -2,6 +2,7 @@
 -- 002, section 3.8, pp. 3-5 to 3-10, and table A-5; 000, table 4).
 use Prim.Native.Nat.{ℕ, _+_, _/_, _%_}
 use mathlib.Core.Path.{_≡_}
+use mathlib.Core.Bool.{Bool, not, _&&_}
 use mathlib.Core.List.{List}
 use lib.Dec.{eqb}
 use Rattle.word.specs.Word.{pick, bitOf, plusW, extend9}
@@ -77,19 +78,27 @@ indexedPlace s m at pc =
     (pick (eqb (p / 64) 3) (pick (bitOf 2 p) (accumulatorPlace s m pc p) (constantPlace s m at pc p)) (steppedPlace s p))
     (fivePlace s pc p)
 
--- the places of the form IDX: those without a further byte or a pointer
-abbrev pub plainPlace : State → ℕ → ℕ → Place
-plainPlace s pc p =
-    pick (bitOf 5 p) (pick (eqb (p / 64) 3) (plainAccumulator s pc p) (steppedPlace s p)) (fivePlace s pc p)
+-- whether a postbyte is rr1pnnnn, rr not 3, and so steps its base register
+abbrev pub stepsOf : ℕ → Bool
+stepsOf p = bitOf 5 p && not (eqb (p / 64) 3)
 
--- The same place by the postbyte's form, as the decoded instruction has it: that both are the same is `ByItsForm`, proved under that
--- name in proofs/Forms.antt.
+-- The places of the form IDX, those without a further byte or a pointer: the base register steps, or an accumulator is added to it, or 5
+-- bits are.
+abbrev pub unsteppedPlace : State → ℕ → ℕ → Place
+unsteppedPlace s pc p = pick (bitOf 5 p) (plainAccumulator s pc p) (fivePlace s pc p)
+
+abbrev pub plainPlace : State → ℕ → ℕ → Place
+plainPlace s pc p = pick (stepsOf p) (steppedPlace s p) (unsteppedPlace s pc p)
+
+-- The place of any postbyte by its form, as the decoded instruction has it: that it is the one which the bits name is `ByItsForm`, proved
+-- under that name in proofs/Forms.antt.
 unfoldable pub placeIn : ℕ → State → List ℕ → ℕ → ℕ → ℕ → Place
 placeIn form s m at pc p =
-    pick (eqb form IDX) (plainPlace s pc p)
+    pick (stepsOf p) (steppedPlace s p)
+    (pick (eqb form IDX) (unsteppedPlace s pc p)
     (pick (eqb form IDX1) (nineBits s m at pc p)
     (pick (eqb form IDX2) (sixteenBits s m at pc p)
-    (pick (eqb form [D:IDX]) (throughD s m pc p) (throughSixteen s m at pc p))))
+    (pick (eqb form [D:IDX]) (throughD s m pc p) (throughSixteen s m at pc p)))))
 
 abbrev pub ByItsForm : Type 0
 ByItsForm =

@@ -10,8 +10,8 @@ ghost use Rattle.word.specs.Word.{plusW};
 ghost use Rattle.memory.specs.Memory.{byteAt, wordAt};
 ghost use Rattle.opcodes.specs.Postbyte.{formOf};
 ghost use Rattle.decode.specs.Decode.{Faithful};
-ghost use Rattle.operand.specs.Operand.{operandPlace, routeIs, dataSize, immediateToExtended, extendedToExtended, immediateToIndexed, extendedToIndexed, indexedToExtended, indexedToIndexed, routeOf};
-ghost use Rattle.operand.specs.Indexed.{placeIs, baseOf, withBase, offset5, stepAmount, fivePlace, steppedPlace, nineBits, sixteenBits, throughSixteen, throughD, plainAccumulator, plainPlace, indexedPlace};
+ghost use Rattle.operand.specs.Operand.{operandPlace, movePlace, routeIs, dataSize, immediateToExtended, extendedToExtended, immediateToIndexed, extendedToIndexed, indexedToExtended, indexedToIndexed, routeOf};
+ghost use Rattle.operand.specs.Indexed.{placeIs, baseOf, withBase, offset5, stepAmount, fivePlace, steppedPlace, nineBits, sixteenBits, throughSixteen, throughD, plainAccumulator, stepsOf, unsteppedPlace, plainPlace, indexedPlace};
 
 // An address, and the state after the base register's update, from which the operation goes on.
 pub struct Place {
@@ -140,28 +140,45 @@ fn accumulator_place(s: State, pc: u16, p: u8) -> Place
     place_at(word::plus(from, s.d()), s)
 }
 
-// The form IDX: what has no further byte and reads no pointer.
-fn plain_place(s: State, pc: u16, p: u8) -> Place
-    ensures { λ r. ⌜ r ≡ plainPlace s pc p ⌝ }
+// Whether the postbyte steps its base register.
+fn steps(p: u8) -> bool
+    ensures { λ r. ⌜ r ≡ stepsOf p ⌝ }
+{
+    (p / 32 % 2 == 1) & (p / 64 != 3)
+}
+
+fn unstepped_place(s: State, pc: u16, p: u8) -> Place
+    ensures { λ r. ⌜ r ≡ unsteppedPlace s pc p ⌝ }
 {
     if p / 32 % 2 == 1 {
-        if p / 64 == 3 {
-            return accumulator_place(s, pc, p);
-        }
-        return stepped_place(s, p);
+        return accumulator_place(s, pc, p);
     }
     five_place(s, pc, p)
 }
 
-// The place that the postbyte p at `at` names, whose form is `form`. `pc` is what PC stands for as a base.
+// The form IDX: what has no further byte and reads no pointer.
+fn plain_place(s: State, pc: u16, p: u8) -> Place
+    ensures { λ r. ⌜ r ≡ plainPlace s pc p ⌝ }
+{
+    if steps(p) {
+        return stepped_place(s, p);
+    }
+    unstepped_place(s, pc, p)
+}
+
+// The place that the postbyte p at `at` names, whose form is `form`. `pc` is what PC stands for as a base. It does not call
+// `plain_place`: then this has one caller and that another, and the compiler takes this one into the loop of a run (docs/SPEED.md).
 fn indexed_place(s: State, m: &[u8], at: u16, pc: u16, p: u8, form: u8) -> Place
     requires { ⌜ length (now m) ≡ 65536 ⌝ }
     requires { ⌜ p ≡ byteAt (now m) at ⌝ }
     requires { ⌜ form ≡ formOf p ⌝ }
     ensures { λ r. ⌜ r ≡ indexedPlace s (now (m .entry)) at pc ⌝ }
 {
+    if steps(p) {
+        return stepped_place(s, p);
+    }
     match form {
-        form::IDX => plain_place(s, pc, p),
+        form::IDX => unstepped_place(s, pc, p),
         form::IDX1 => nine_bit_place(s, m, at, pc, p),
         form::IDX2 => sixteen_bit_place(s, m, at, pc, p),
         form::D_INDIRECT => through_d(s, m, pc, p),
@@ -229,19 +246,17 @@ fn extended_to_extended(s: State, m: &[u8], at: u16) -> Route
 fn first_place(s: State, m: &[u8], d: Decoded, pc: u16) -> Place
     requires { ⌜ length (now m) ≡ 65536 ⌝ }
     requires { ⌜ Faithful (now m) d ⌝ }
-    ensures { λ r. ⌜ r ≡ indexedPlace s (now (m .entry)) (d .at) pc ⌝ }
+    ensures { λ r. ⌜ r ≡ movePlace s (now (m .entry)) (d .at) pc ⌝ }
 {
-    indexed_place(s, m, d.at, pc, d.postbyte, d.form)
+    plain_place(s, pc, d.postbyte)
 }
 
 // The place that the postbyte at `at`, the second of a move, names: it was not decoded.
 fn second_place(s: State, m: &[u8], at: u16, pc: u16) -> Place
     requires { ⌜ length (now m) ≡ 65536 ⌝ }
-    ensures { λ r. ⌜ r ≡ indexedPlace s (now (m .entry)) at pc ⌝ }
+    ensures { λ r. ⌜ r ≡ movePlace s (now (m .entry)) at pc ⌝ }
 {
-    let p = memory::read_byte(m, at);
-    let form = opcodes::form_of(p);
-    indexed_place(s, m, at, pc, p, form)
+    plain_place(s, pc, memory::read_byte(m, at))
 }
 
 fn immediate_to_indexed(s: State, m: &[u8], d: Decoded, wide: bool) -> Route

@@ -5,12 +5,11 @@ use mathlib.Core.Path.{_≡_, refl, sym, _∙_, ap}
 use mathlib.Core.Bool.{Bool, true, false}
 use mathlib.Core.List.{List}
 use lib.Dec.{ltb}
-use lib.ListN.{length, getD, take}
-use lib.Seq.{take-all, getD-take}
+use lib.ListN.{length, getD}
 use borrow.Author.Tests.{lt-ltb}
 use Rattle.word.specs.Word.{pick, plusW, minusW}
-use Rattle.memory.specs.Memory.{byteAt, committed, storeNine, bytesStored, AreBytes}
-use Rattle.memory.proofs.Laws.{store-keeps, store-none, stores-exactly}
+use Rattle.memory.specs.Memory.{byteAt, storeAll, committed, storeNine, bytesStored, AreBytes}
+use Rattle.memory.proofs.Laws.{store-keeps, store-none, stores-exactly, store-by-byte}
 use Rattle.state.specs.declared.State.{State}
 use Rattle.state.specs.State.{withClock}
 use Rattle.stack.specs.Stack.{frameOf}
@@ -19,6 +18,7 @@ use Rattle.run.specs.Given.{Given, lineIn}
 use Rattle.run.specs.Step.{turnState, turnMemory}
 use Rattle.run.specs.Run.{turnAt, nextState, nextMemory}
 use Rattle.walk.specs.Words.{Words}
+use Rattle.walk.proofs.Registers.{frame-bytes}
 use Rattle.promises.specs.Steps.{afterSteps}
 use Rattle.promises.specs.Masks.{XirqEnteredAt, XStaysClearAlongEveryRun}
 use Rattle.promises.proofs.Words.{every-step-keeps-words, every-boundary-has-words}
@@ -58,16 +58,16 @@ pub nine-stored :
     length m ≡ 65536 →
     a < 65536 →
     length bs ≡ 9 →
+    AreBytes bs →
     (j : ℕ) →
     j < 9 →
     byteAt (committed m (storeNine a bs)) (plusW a j) ≡ getD bs j 0
-nine-stored m a bs whole inside nine j h =
+nine-stored m a bs whole inside nine bytes j h =
     let back : minusW (plusW a j) a ≡ j = omega (arith, inside, h) in
-    let all : length (take 9 bs) ≡ 9 = ap length (take-all 9 bs (omega (arith, nine))) ∙ nine in
-    stores-exactly m a (take 9 bs) (plusW a j) whole inside (omega (arith, all)) (omega arith)
-    ∙ ap (λ i. pick (ltb i (length (take 9 bs))) (getD (take 9 bs) i 0) (byteAt m (plusW a j))) back
-    ∙ ap (λ b. pick b (getD (take 9 bs) j 0) (byteAt m (plusW a j))) (lt-ltb j (length (take 9 bs)) (omega (arith, all, h)))
-    ∙ getD-take 9 bs j 0 h
+    ap (λ run. byteAt (storeAll m a run) (plusW a j)) (store-by-byte .nine a bs nine bytes)
+    ∙ stores-exactly m a bs (plusW a j) whole inside (omega (arith, nine)) (omega arith)
+    ∙ ap (λ i. pick (ltb i (length bs)) (getD bs i 0) (byteAt m (plusW a j))) back
+    ∙ ap (λ b. pick b (getD bs j 0) (byteAt m (plusW a j))) (lt-ltb j (length bs) (omega (arith, nine, h)))
 
 -- What every boundary has, from one that has it: registers of bytes and words, a memory of 65,536 bytes, and where the machine waits
 -- its frame.
@@ -99,12 +99,13 @@ sound-next s m line here =
     framed : (b : Bool) → s .standing .waiting ≡ b → turnOf s m line .effect .state .standing .waiting ≡ true → Framed (turnState s m line) (turnMemory s m line)
     framed false was waits j h =
         let left = every-step-keeps-words s m line (here .words) (here .bytes) in
+        let after = turnOf s m line .effect .state in
         rw (only-wai-waits s m line was waits)
-        (nine-stored m (turnOf s m line .effect .state .sp) (frameOf (turnOf s m line .effect .state)) (here .whole) (left .registers .sp) refl j h)
+        (nine-stored m (after .sp) (frameOf after) (here .whole) (left .registers .sp) refl (frame-bytes (left .registers) .at) j h)
     framed true was waits j h =
         let kept = a-wait-keeps s m line was waits in
         framed-kept s (turnOf s m line .effect .state) m (turnMemory s m line) (turnState s m line .clock) (kept .0)
-        (ap (committed m) (kept .1) ∙ store-none m 0) (here .framed was) j h
+        (ap (committed m) (kept .1) ∙ store-none m) (here .framed was) j h
 
 pub sound-at : (n : ℕ) (s : State) (m : List ℕ) (given : Given) → Sound s m → Sound (afterSteps n given s m .state) (afterSteps n given s m .memory)
 unfolding afterSteps

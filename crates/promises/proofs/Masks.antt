@@ -39,12 +39,12 @@ turn-x :
     t .effect .state .flags .x ≡ true →
     s .flags .x ≡ true
 unfolding wakeEffect entryEffect interruptEffect
-turn-x {s} other (wakes waiting) e = sym (masked-x _ (s .flags) other) ∙ e
-turn-x {s} other (enters awake) e = sym (masked-x _ (s .flags) other) ∙ e
-turn-x other (idles waiting) e = e
-turn-x other (stops awake) e = e
-turn-x other (reserves awake) e = e
-turn-x other (runs awake there gives) e = instruction-x gives e
+turn-x {s} other (wakes up waiting) e = sym (masked-x _ (s .flags) other) ∙ e
+turn-x {s} other (enters up awake) e = sym (masked-x _ (s .flags) other) ∙ e
+turn-x other (idles none waiting) e = e
+turn-x other (stops none awake) e = e
+turn-x other (reserves none awake) e = e
+turn-x other (runs none awake there gives) e = instruction-x gives e
 
 pub x-stays-clear : XStaysClear
 x-stays-clear s m line other clear = go (turnOf s m line .effect .state .flags .x) refl
@@ -69,12 +69,12 @@ instruction-framed (waits w run) p q = refl
 
 turn-framed : {s : State} {m : List ℕ} {line : ℕ} {t : Turn} → Ways s m line t → Framed s (t .effect)
 unfolding Framed wakeEffect entryEffect interruptEffect
-turn-framed (wakes waiting) p q = absurd (true≢false (sym q))
-turn-framed (enters awake) p q = absurd (still refl p q)
-turn-framed (idles waiting) p q = absurd (still refl p q)
-turn-framed (stops awake) p q = absurd (still refl p q)
-turn-framed (reserves awake) p q = absurd (still refl p q)
-turn-framed (runs awake there gives) p q = instruction-framed gives p q
+turn-framed (wakes up waiting) p q = absurd (true≢false (sym q))
+turn-framed (enters up awake) p q = absurd (still refl p q)
+turn-framed (idles none waiting) p q = absurd (still refl p q)
+turn-framed (stops none awake) p q = absurd (still refl p q)
+turn-framed (reserves none awake) p q = absurd (still refl p q)
+turn-framed (runs none awake there gives) p q = instruction-framed gives p q
 
 pub only-wai-waits : OnlyWaiWaits
 unfolding Framed
@@ -87,12 +87,12 @@ Unchanged s t =
 
 turn-unchanged : {s : State} {m : List ℕ} {line : ℕ} {t : Turn} → Ways s m line t → Unchanged s t
 unfolding Unchanged wakeEffect
-turn-unchanged (wakes waiting) was on = absurd (true≢false (sym on))
-turn-unchanged (idles waiting) was on = (refl, refl)
-turn-unchanged (enters awake) was on = absurd (true≢false (sym was ∙ awake))
-turn-unchanged (stops awake) was on = absurd (true≢false (sym was ∙ awake))
-turn-unchanged (reserves awake) was on = absurd (true≢false (sym was ∙ awake))
-turn-unchanged (runs awake there gives) was on = absurd (true≢false (sym was ∙ awake))
+turn-unchanged (wakes up waiting) was on = absurd (true≢false (sym on))
+turn-unchanged (idles none waiting) was on = (refl, refl)
+turn-unchanged (enters up awake) was on = absurd (true≢false (sym was ∙ awake))
+turn-unchanged (stops none awake) was on = absurd (true≢false (sym was ∙ awake))
+turn-unchanged (reserves none awake) was on = absurd (true≢false (sym was ∙ awake))
+turn-unchanged (runs none awake there gives) was on = absurd (true≢false (sym was ∙ awake))
 
 pub a-wait-keeps : AWaitKeeps
 unfolding Unchanged

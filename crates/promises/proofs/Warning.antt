@@ -25,7 +25,7 @@ use Rattle.run.specs.Run.{runOf, turnAt}
 use Rattle.run.proofs.Refusals.{is-free}
 use Rattle.promises.specs.Steps.{afterSteps, IsOfSteps}
 use Rattle.promises.specs.Warning.{stateAt, memoryAt, StaysUp, FirstFrom, NoStopBefore, Warned, TheWarningIsNeverLate}
-use Rattle.walk.proofs.Registers.{Below, word-at}
+use Rattle.walk.proofs.Registers.{Below, word-at, frame-bytes}
 use Rattle.promises.proofs.Boundaries.{one-on, clock-at, Framed, nine-stored, Sound, sound-at}
 
 -- XIRQ up and X clear: line 0 is to be entered
@@ -56,19 +56,19 @@ woken s m framed =
       pc = refl;
       x = refl;
       i = refl;
-      frame = λ j h. ap (λ (n : List ℕ). byteAt n (plusW (s .sp) j)) (store-none m 0) ∙ framed j h;
+      frame = λ j h. ap (λ (n : List ℕ). byteAt n (plusW (s .sp) j)) (store-none m) ∙ framed j h;
     }
 
-entered : (s : State) (m : List ℕ) → length m ≡ 65536 → Entered s m (turnIs Done (entryEffect s m 0))
+entered : (s : State) (m : List ℕ) → Sound s m → Entered s m (turnIs Done (entryEffect s m 0))
 unfolding entryEffect interruptEffect
-entered s m whole =
+entered s m here =
     record {
       done = refl;
       cost = omega arith;
       pc = refl;
       x = refl;
       i = refl;
-      frame = nine-stored m (minusW (s .sp) 9) (frameOf s) whole (omega arith) refl;
+      frame = nine-stored m (minusW (s .sp) 9) (frameOf s) (here .whole) (omega arith) refl (frame-bytes (here .words) .at);
     }
 
 xirq-enters : (s : State) (m : List ℕ) (line : ℕ) → Sound s m → allowedLine (s .flags) line ≡ 0 → Entered s m (turnOf s m line)
@@ -76,7 +76,7 @@ xirq-enters s m line here zero-is = rw (xirq-turn s m line zero-is) (go (s .stan
   where
     go : (b : Bool) → s .standing .waiting ≡ b → Entered s m (pick b (turnIs Done (wakeEffect s m 0)) (turnIs Done (entryEffect s m 0)))
     go true waits = woken s m (here .framed waits)
-    go false waits = entered s m (here .whole)
+    go false waits = entered s m here
 
 -- reset leaves what every boundary has
 reset-sound : (m : List ℕ) → AreBytes m → length m ≡ 65536 → Sound (resetOf m) m

@@ -4,11 +4,13 @@ use native.Mathlib.Omega.{arith}
 use mathlib.Core.List.{List, [], _∷_}
 use lib.ListN.{set}
 use Rattle.word.specs.Word.{plusW}
-use Rattle.memory.specs.Memory.{storeAll, AreBytes}
+use Rattle.memory.specs.Memory.{storeAll, noStore, AreBytes}
+use Rattle.memory.proofs.Laws.{stored-bytes}
 use Rattle.state.specs.declared.State.{State}
+use Rattle.codes.proofs.Laws.{ccr-below}
 use Rattle.effect.specs.declared.Effect.{Effect}
 use Rattle.effect.specs.Effect.{quiet}
-use Rattle.stack.specs.Stack.{interruptEffect, waitEffect}
+use Rattle.stack.specs.Stack.{frameStore, interruptEffect, waitEffect}
 use Rattle.turn.specs.declared.Turn.{Turn}
 use Rattle.turn.specs.Turn.{entryEffect, wakeEffect}
 use Rattle.walk.specs.Words.{Words}
@@ -16,35 +18,41 @@ use Rattle.walk.specs.Walk.{Before, Fits, Gives}
 use Rattle.walk.specs.Walk.Gives.{stores, untaken, waits}
 use Rattle.walk.specs.Turns.{Ways}
 use Rattle.walk.specs.Turns.Ways.{wakes, enters, idles, stops, reserves, runs}
-use Rattle.walk.proofs.Registers.{Below, word-at, frame-bytes, set-sp, set-pc, set-flags, set-waiting, set-clock}
+use Rattle.walk.proofs.Registers.{Below, word-at, frame-whole, set-sp, set-pc, set-flags, set-waiting, set-clock}
 use Rattle.walk.proofs.Settings.{held}
 use Rattle.walk.proofs.Turns.{every-turn-goes, fits-at-pc}
 use Rattle.promises.specs.Words.{LeavesWords, EveryStepKeepsWords, EveryBoundaryHasWords}
 
 quiet-leaves : {s : State} {cost : ℕ} → Words s → LeavesWords (quiet s cost)
-quiet-leaves w = record { registers = w; address = omega arith; bytes = λ i. omega arith }
+quiet-leaves w = record { registers = w; address = omega arith; bytes = stored-bytes noStore (omega arith); whole = omega arith }
 
 -- an instruction leaves what it has set, and stores what it says
 instruction-leaves : {b : Before} {e : Effect} → Fits b → Gives b e → LeavesWords e
 unfolding waitEffect
-instruction-leaves k (stores w run) = record { registers = held w k; address = run .address k; bytes = run .bytes k }
+instruction-leaves k (stores w run) = record { registers = held w k; address = run .address k; bytes = run .bytes k; whole = run .whole k }
 instruction-leaves k (untaken w is) = quiet-leaves (held w k)
 instruction-leaves k (waits w run) =
-    record { registers = set-waiting (set-sp (held w k) (omega arith)); address = run .address k; bytes = run .bytes k }
+    record {
+      registers = set-waiting (set-sp (held w k) (omega arith));
+      address = run .address k;
+      bytes = run .bytes k;
+      whole = run .whole k;
+    }
 
 turn-leaves : {s : State} {m : List ℕ} {line : ℕ} {t : Turn} → Words s → Below 256 m → Ways s m line t → LeavesWords (t .effect)
 unfolding wakeEffect entryEffect interruptEffect
-turn-leaves w bytes (wakes waiting) = quiet-leaves (set-waiting (set-pc (set-flags w) (word-at bytes _)))
-turn-leaves w bytes (enters awake) =
+turn-leaves w bytes (wakes up waiting) = quiet-leaves (set-waiting (set-pc (set-flags w) (word-at bytes _)))
+turn-leaves {s} w bytes (enters up awake) =
     record {
       registers = set-flags (set-pc (set-sp w (omega arith)) (word-at bytes _));
       address = omega arith;
-      bytes = frame-bytes w .at;
+      bytes = stored-bytes (frameStore s) (ccr-below (s .flags));
+      whole = frame-whole w;
     }
-turn-leaves w bytes (idles waiting) = quiet-leaves w
-turn-leaves w bytes (stops awake) = quiet-leaves w
-turn-leaves w bytes (reserves awake) = quiet-leaves w
-turn-leaves w bytes (runs awake there gives) = instruction-leaves (fits-at-pc w bytes) gives
+turn-leaves w bytes (idles none waiting) = quiet-leaves w
+turn-leaves w bytes (stops none awake) = quiet-leaves w
+turn-leaves w bytes (reserves none awake) = quiet-leaves w
+turn-leaves w bytes (runs none awake there gives) = instruction-leaves (fits-at-pc w bytes) gives
 
 pub every-step-keeps-words : EveryStepKeepsWords
 every-step-keeps-words s m line w bytes = turn-leaves w (record { at = bytes }) (every-turn-goes s m line)

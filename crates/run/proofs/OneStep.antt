@@ -43,7 +43,7 @@ pub turn-rests :
 turn-rests s m line other =
     let idle = turn-idle s m line other in
     λ i. endIs (numberOf (turnOf s m line .reply)) ((ap (acted s) idle ∙ same-clock s) i)
-    ((ap (λ (e : Effect). committed m (e .store)) idle ∙ store-none m 0) i) (idle i .cost)
+    ((ap (λ (e : Effect). committed m (e .store)) idle ∙ store-none m) i) (idle i .cost)
 
 -- the schedule of one record, in force from the start
 abbrev pub always : ℕ → Given

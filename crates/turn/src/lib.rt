@@ -50,10 +50,13 @@ fn lowest_line(line: u8) -> u8
     8
 }
 
-// The line to be entered, or 8 where none is allowed.
+// The line to be entered, or 8 where none is allowed. At most boundaries no line is up, so that is asked first.
 fn allowed_line(f: Flags, line: u8) -> u8
     ensures { λ r. ⌜ r ≡ allowedLine f line ⌝ }
 {
+    if line == 0 {
+        return 8;
+    }
     let warned = (line / 1 % 2 == 1) & !f.x;
     if warned {
         return 0;

@@ -6,9 +6,9 @@ use mathlib.Core.Bool.{Bool, true, false, _||_}
 use mathlib.Core.List.{List}
 use lib.Dec.{eqb}
 use borrow.Author.Tests.{eq-eqb, ne-eqb}
-use lib.ListN.{length}
 use Rattle.word.specs.Word.{pick, plusW}
-use Rattle.memory.specs.Memory.{byteAt, bytesStored, AreBytes}
+use Rattle.memory.specs.Memory.{byteAt, AreBytes}
+use Rattle.memory.proofs.Laws.{stored-short}
 use Rattle.state.specs.declared.State.{State}
 use Rattle.opcodes.specs.Kind.{groupOf, SHORT-BRANCHES}
 use Rattle.opcodes.specs.Map.{cellNumber}
@@ -22,7 +22,7 @@ use Rattle.machine.specs.declared.Reply.{Reply}
 use Rattle.machine.specs.declared.Reply.the-variants.{Done}
 use Rattle.turn.specs.declared.Turn.{Turn}
 use Rattle.machine.specs.Names.{numberOf}
-use Rattle.turn.specs.Turn.{entryEffect, wakeEffect}
+use Rattle.turn.specs.Turn.{entryEffect, wakeEffect, turnOf}
 use Rattle.walk.specs.Bounds.{EveryStepCosts, EveryStoreIsShort}
 use Rattle.walk.specs.Walk.{IsBranch, Gives}
 use Rattle.walk.specs.Walk.IsBranch.{short, long}
@@ -73,48 +73,40 @@ unfolding untakenOf
 untaken-low m pc (short e) = rw (eq-eqb (groupOf (cellAt m pc .kind)) SHORT-BRANCHES e) (omega arith)
 untaken-low m pc (long e) = rw e (omega arith)
 
--- an effect whose cost is 1 to 13 and whose store is short
+-- an effect whose cost is 1 to 13
 record Good (e : Effect) : Type 0 where
   low : 1 ≤ e .cost
   high : e .cost ≤ 13
-  short : length (bytesStored (e .store)) ≤ 9
 
 instruction-good : {s : State} {m : List ℕ} {e : Effect} → AreBytes m → Runs m (s .pc) → Gives (atPc s m) e → Good e
 unfolding waitEffect
 instruction-good {s} {m} bytes there (stores w run) =
     let cell = bounded m (s .pc) bytes there in
-    record { low = cell .cost-low; high = cell .cost-high; short = run .short }
+    record { low = cell .cost-low; high = cell .cost-high }
 instruction-good {s} {m} bytes there (untaken w is) =
-    record { low = untaken-low m (s .pc) is; high = bounded m (s .pc) bytes there .untaken-high; short = omega arith }
+    record { low = untaken-low m (s .pc) is; high = bounded m (s .pc) bytes there .untaken-high }
 instruction-good {s} {m} bytes there (waits w run) =
     let cell = bounded m (s .pc) bytes there in
-    record { low = cell .cost-low; high = cell .cost-high; short = run .short }
-
--- a turn: where it is done, its effect is good; and its store is short either way
-record Fine (t : Turn) : Type 0 where
-  done : t .reply ≡ Done → Good (t .effect)
-  short : length (bytesStored (t .effect .store)) ≤ 9
-
-fine : {t : Turn} → Good (t .effect) → Fine t
-fine g = record { done = λ r. g; short = g .short }
+    record { low = cell .cost-low; high = cell .cost-high }
 
 -- a reply that is not 0
 refused : {reply : Reply} → 1 ≤ numberOf reply → reply ≡ Done → ⊥
 refused h e = let z = ap numberOf e in omega (arith, h, z)
 
-turn-fine : {s : State} {m : List ℕ} {line : ℕ} {t : Turn} → AreBytes m → Ways s m line t → Fine t
+-- a turn that is done has such an effect
+turn-good : {s : State} {m : List ℕ} {line : ℕ} {t : Turn} → AreBytes m → Ways s m line t → t .reply ≡ Done → Good (t .effect)
 unfolding wakeEffect entryEffect interruptEffect
-turn-fine bytes (wakes waiting) = fine (record { low = omega arith; high = omega arith; short = omega arith })
-turn-fine bytes (enters awake) = fine (record { low = omega arith; high = omega arith; short = omega arith })
-turn-fine bytes (idles waiting) = fine (record { low = omega arith; high = omega arith; short = omega arith })
-turn-fine bytes (stops awake) = record { done = λ r. absurd (refused (omega arith) r); short = omega arith }
-turn-fine bytes (reserves awake) = record { done = λ r. absurd (refused (omega arith) r); short = omega arith }
-turn-fine bytes (runs awake there gives) = fine (instruction-good bytes there gives)
+turn-good bytes (wakes up waiting) done = record { low = omega arith; high = omega arith }
+turn-good bytes (enters up awake) done = record { low = omega arith; high = omega arith }
+turn-good bytes (idles none waiting) done = record { low = omega arith; high = omega arith }
+turn-good bytes (stops none awake) done = absurd (refused (omega arith) done)
+turn-good bytes (reserves none awake) done = absurd (refused (omega arith) done)
+turn-good bytes (runs none awake there gives) done = instruction-good bytes there gives
 
 pub every-step-costs : EveryStepCosts
 every-step-costs s m line bytes done =
-    let good = turn-fine bytes (every-turn-goes s m line) .done done in
+    let good = turn-good bytes (every-turn-goes s m line) done in
     (good .low, good .high)
 
 pub every-store-is-short : EveryStoreIsShort
-every-store-is-short s m line bytes = turn-fine bytes (every-turn-goes s m line) .short
+every-store-is-short s m line bytes = stored-short (turnOf s m line .effect .store)

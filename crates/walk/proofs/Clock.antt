@@ -23,12 +23,12 @@ of-an-instruction (waits w run) = untouched w .clock
 
 of-a-turn : {s : State} {m : List ℕ} {line : ℕ} {t : Turn} → Ways s m line t → t .effect .state .clock ≡ s .clock
 unfolding wakeEffect entryEffect interruptEffect
-of-a-turn (wakes waiting) = refl
-of-a-turn (enters awake) = refl
-of-a-turn (idles waiting) = refl
-of-a-turn (stops awake) = refl
-of-a-turn (reserves awake) = refl
-of-a-turn (runs awake there gives) = of-an-instruction gives
+of-a-turn (wakes up waiting) = refl
+of-a-turn (enters up awake) = refl
+of-a-turn (idles none waiting) = refl
+of-a-turn (stops none awake) = refl
+of-a-turn (reserves none awake) = refl
+of-a-turn (runs none awake there gives) = of-an-instruction gives
 
 pub no-turn-moves-the-clock : NoTurnMovesTheClock
 no-turn-moves-the-clock s m line = of-a-turn (every-turn-goes s m line)

@@ -8,7 +8,7 @@ use lib.Dec.{leb, eqb}
 use lib.ListN.{getD}
 use Rattle.word.specs.Word.{lowOf, plusW}
 use Rattle.word.proofs.Laws.{word-below}
-use Rattle.memory.specs.Memory.{wordAt}
+use Rattle.memory.specs.Memory.{wordAt, IsWhole}
 use Rattle.state.specs.declared.Flags.{Flags}
 use Rattle.state.specs.declared.State.{State}
 use Rattle.state.specs.Ccr.{ccrOf}
@@ -17,7 +17,7 @@ use Rattle.codes.specs.Registers.{byteFrom, wordFrom}
 use Rattle.word.proofs.Laws.{both}
 use Rattle.codes.proofs.Laws.{ccr-below}
 use Rattle.operand.specs.Indexed.{baseOf}
-use Rattle.stack.specs.Stack.{frameOf}
+use Rattle.stack.specs.Stack.{frameOf, frameStore}
 use Rattle.walk.specs.Words.{Words}
 
 -- every number of a list is below a bound, and so is 0, which stands for what is past its end
@@ -112,3 +112,7 @@ frame-bytes {s} w =
     (more (omega (arith, w .x))
     (more (omega arith)
     (more (omega (arith, w .y)) (more (omega arith) (more (omega (arith, w .pc)) (more (omega arith) (none (omega arith))))))))))
+
+-- a frame's store has the eight of them below the first whole
+pub frame-whole : {s : State} → Words s → IsWhole (frameStore s)
+frame-whole {s} w = omega (arith, w .b, w .a, w .x, w .y, w .pc)

@@ -4,14 +4,15 @@ use Prim.Native.Nat.{ℕ, _/_, _%_, _<_}
 use native.Mathlib.Omega.{arith}
 use mathlib.Core.Path.{_≡_, refl, sym, _∙_}
 use mathlib.Core.Bool.{Bool, true}
-use mathlib.Core.List.{[], _∷_}
 use Rattle.word.specs.Word.{pick, plusW}
 use Rattle.word.proofs.Laws.{word-below}
-use Rattle.memory.specs.Memory.{byteAt, wordAt, noStore, storeByte, storeWord, storeWords}
+use Rattle.memory.specs.Memory.{byteAt, wordAt, IsWhole, storeNumber, noStore, storeByte, storeWord, storeWords}
+use Rattle.memory.proofs.Laws.{stored-bytes}
 use Rattle.state.specs.declared.Flags.{Flags}
 use Rattle.state.specs.declared.State.{State}
 use Rattle.state.specs.State.{withA, withB, withD, withX, withY, withSp, withPc, withFlags, dOf}
 use Rattle.word.proofs.Laws.{both}
+use Rattle.codes.proofs.Laws.{ccr-below}
 use Rattle.effect.specs.declared.Effect.{Effect}
 use Rattle.effect.specs.Effect.{quiet, writes}
 use Rattle.stack.specs.Stack.{frameStore}
@@ -97,41 +98,38 @@ module _ {b : Before} where
   pub set-codes : {s : State} {f : Flags} → Comes b s → f .x ≡ s .flags .x → Comes b (withFlags s f)
   set-codes w same = take-codes w (λ e. sym same ∙ e)
 
+  -- a number that is stored has no first byte apart; a frame has its CCR there
+  stored : {a count n : ℕ} → (Fits b → a < 65536) → (Fits b → IsWhole (storeNumber a count n)) → Stores b (storeNumber a count n)
+  stored {a} {count} {n} h whole =
+      record { address = h; bytes = λ k. stored-bytes (storeNumber a count n) (omega arith); whole = whole }
+
+  pub frame-stored : {s : State} → Comes b s → Stores b (frameStore s)
+  frame-stored {s} w =
+      record {
+        address = λ k. omega arith;
+        bytes = λ k. stored-bytes (frameStore s) (ccr-below (s .flags));
+        whole = λ k. r.frame-whole (held w k);
+      }
+
   -- the effects that the definitions make: nothing is stored, or a byte, a word, two words, or the frame of a state
   pub quietly : {s : State} → Comes b s → Gives b (quiet s (b .decoded .cost))
-  quietly w = stores {w = noStore} w (record { short = omega arith; address = λ k. omega arith; bytes = λ k i. omega arith })
+  quietly w = stores {w = noStore} w (stored (λ k. omega arith) (λ k. omega arith))
 
   pub with-byte :
       {s : State} {a v : ℕ} → Comes b s → (Fits b → a < 65536) → (Fits b → v < 256) →
       Gives b (writes s (b .decoded .cost) (storeByte a v))
-  with-byte {s} {a} {v} w h fits =
-      stores {w = storeByte a v} w (record { short = omega arith; address = h; bytes = λ k. byte k .at })
-    where
-      byte : Fits b → r.Below 256 (v ∷ [])
-      byte k = r.more (fits k) (r.none (omega arith))
+  with-byte {s} {a} {v} w h fits = stores {w = storeByte a v} w (stored h fits)
 
   pub with-word :
       {s : State} {a v : ℕ} → Comes b s → (Fits b → a < 65536) → (Fits b → v < 65536) →
       Gives b (writes s (b .decoded .cost) (storeWord a v))
-  with-word {s} {a} {v} w h fits =
-      stores {w = storeWord a v} w (record { short = omega arith; address = h; bytes = λ k. halves k .at })
-    where
-      halves : Fits b → r.Below 256 (v / 256 ∷ v % 256 ∷ [])
-      halves k = r.more (omega (arith, fits k)) (r.more (omega arith) (r.none (omega arith)))
+  with-word {s} {a} {v} w h fits = stores {w = storeWord a v} w (stored h fits)
 
   pub with-words :
       {s : State} {a v u : ℕ} → Comes b s → (Fits b → a < 65536) → (Fits b → v < 65536) → (Fits b → u < 65536) →
       Gives b (writes s (b .decoded .cost) (storeWords a v u))
   with-words {s} {a} {v} {u} w h first second =
-      stores {w = storeWords a v u} w (record { short = omega arith; address = h; bytes = λ k. halves k .at })
-    where
-      halves : Fits b → r.Below 256 (v / 256 ∷ v % 256 ∷ u / 256 ∷ u % 256 ∷ [])
-      halves k =
-          r.more (omega (arith, first k))
-          (r.more (omega arith) (r.more (omega (arith, second k)) (r.more (omega arith) (r.none (omega arith)))))
-
-  pub frame-stored : {s : State} → Comes b s → Stores b (frameStore s)
-  frame-stored w = record { short = omega arith; address = λ k. omega arith; bytes = λ k. r.frame-bytes (held w k) .at }
+      stores {w = storeWords a v u} w (stored h (λ k. omega (arith, first k, second k)))
 
   pub with-frame : {s t : State} → Comes b s → Comes b t → Gives b (writes t (b .decoded .cost) (frameStore s))
   with-frame {s} {t} v w = stores {w = frameStore s} w (frame-stored v)

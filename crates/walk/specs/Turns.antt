@@ -1,6 +1,6 @@
 -- The ways that a turn can go: six, and one of them is an instruction. A law of every turn is proved by cases on them, and of an
 -- instruction it is asked of the effects that one can give (specs/Walk.antt).
-use Prim.Native.Nat.{ℕ}
+use Prim.Native.Nat.{ℕ, _<_, _≤_}
 use mathlib.Core.Path.{_≡_}
 use mathlib.Core.Bool.{true, false}
 use mathlib.Core.List.{List}
@@ -30,15 +30,24 @@ pub record Runs (m : List ℕ) (pc : ℕ) : Type 0 where
 abbrev pub atPc : State → List ℕ → Before
 atPc s m = before (withPc s (instructionAt m (s .pc) .next)) m (instructionAt m (s .pc))
 
+-- a line is to be entered, or none is
+abbrev pub AnyUp : State → ℕ → Type 0
+AnyUp s line = allowedLine (s .flags) line < 8
+
+abbrev pub NoneUp : State → ℕ → Type 0
+NoneUp s line = 8 ≤ allowedLine (s .flags) line
+
 -- Where a line is to be entered, a machine that waits ends its wait, and one that does not enters. Where none is, a machine that waits
 -- idles; and else what stands at PC stops it, has a reserved postbyte, or is an instruction, which leaves one of its effects.
 pub data Ways (s : State) (m : List ℕ) (line : ℕ) : Turn → Type 0 where
-  wakes : s .standing .waiting ≡ true → Ways s m line (turnIs Done (wakeEffect s m (allowedLine (s .flags) line)))
-  enters : s .standing .waiting ≡ false → Ways s m line (turnIs Done (entryEffect s m (allowedLine (s .flags) line)))
-  idles : s .standing .waiting ≡ true → Ways s m line (turnIs Done (quiet s idleCost))
-  stops : s .standing .waiting ≡ false → Ways s m line (turnIs Stopped (quiet s 0))
-  reserves : s .standing .waiting ≡ false → Ways s m line (turnIs ReservedPostbyte (quiet s 0))
-  runs : {e : Effect} → s .standing .waiting ≡ false → Runs m (s .pc) → Gives (atPc s m) e → Ways s m line (turnIs Done e)
+  wakes : AnyUp s line → s .standing .waiting ≡ true → Ways s m line (turnIs Done (wakeEffect s m (allowedLine (s .flags) line)))
+  enters : AnyUp s line → s .standing .waiting ≡ false → Ways s m line (turnIs Done (entryEffect s m (allowedLine (s .flags) line)))
+  idles : NoneUp s line → s .standing .waiting ≡ true → Ways s m line (turnIs Done (quiet s idleCost))
+  stops : NoneUp s line → s .standing .waiting ≡ false → Ways s m line (turnIs Stopped (quiet s 0))
+  reserves : NoneUp s line → s .standing .waiting ≡ false → Ways s m line (turnIs ReservedPostbyte (quiet s 0))
+  runs :
+      {e : Effect} → NoneUp s line → s .standing .waiting ≡ false → Runs m (s .pc) → Gives (atPc s m) e →
+      Ways s m line (turnIs Done e)
 
 -- the law, proved under the same name in proofs/Turns.antt: every turn goes one of these ways
 abbrev pub EveryTurnGoes : Type 0

@@ -3,13 +3,12 @@
 -- setting keeps it; then it holds wherever an instruction comes. So a law of every instruction is proved by cases on the lines of
 -- `Comes` and `Gives`, and never by a walk through the instructions of its own: that walk is `EveryInstructionGives`, proved under the
 -- same name in proofs/Walk.antt.
-use Prim.Native.Nat.{ℕ, _<_, _≤_}
+use Prim.Native.Nat.{ℕ, _<_}
 use mathlib.Core.Path.{_≡_}
 use mathlib.Core.Bool.{true}
 use mathlib.Core.List.{List}
-use lib.ListN.{length}
 use Rattle.memory.specs.declared.Store.{Store}
-use Rattle.memory.specs.Memory.{bytesStored, AreBytes}
+use Rattle.memory.specs.Memory.{bytesStored, IsWhole, AreBytes}
 use Rattle.state.specs.declared.Flags.{Flags}
 use Rattle.state.specs.declared.State.{State}
 use Rattle.state.specs.State.{withA, withB, withX, withY, withSp, withPc, withFlags}
@@ -48,11 +47,11 @@ pub data Comes (b : Before) : State → Type 0 where
   sets-pc : {s : State} {v : ℕ} → Comes b s → (Fits b → v < 65536) → Comes b (withPc s v)
   sets-codes : {s : State} {f : Flags} → Comes b s → (f .x ≡ true → b .state .flags .x ≡ true) → Comes b (withFlags s f)
 
--- what an instruction stores: a run of at most nine bytes, from an address on
+-- what an instruction stores: bytes, from an address on, and nothing is cut off
 pub record Stores (b : Before) (w : Store) : Type 0 where
-  pub short : length (bytesStored w) ≤ 9
   pub address : Fits b → w .at < 65536
   pub bytes : Fits b → AreBytes (bytesStored w)
+  pub whole : Fits b → IsWhole w
 
 -- the groups of the branches, which have a cost of their own where they are not taken
 pub data IsBranch (d : Decoded) : Type 0 where

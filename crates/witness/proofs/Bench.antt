@@ -1,5 +1,6 @@
 -- The bench rows, by one computation. Assumes nothing.
 use mathlib.Core.Path.{refl}
+use Rattle.memory.specs.Memory.{bytesOf}
 use Rattle.opcodes.specs.Map.{cellOf}
 use Rattle.opcodes.specs.Postbyte.{reservedOf, lengthOf, costOf, untakenOf}
 use Rattle.operand.specs.Indexed.{steppedPlace, constantPlace, accumulatorPlace, indexedPlace}
@@ -11,10 +12,10 @@ use Rattle.execute16.specs.Products.{multiplied, productEffect}
 use Rattle.flow.specs.Branches.{shortEffect}
 use Rattle.stack.specs.Stack.{interruptEffect}
 use Rattle.turn.specs.Turn.{allowedLine, controlled, withOperand, executed, instructed, turnOf}
-use Rattle.witness.specs.Bench.{given, BenchRows}
+use Rattle.witness.specs.Bench.{found, BenchRows}
 
 pub bench-rows : BenchRows
-unfolding given turnOf allowedLine instructed fetchedOf cellOf reservedOf lengthOf costOf untakenOf steppedPlace
+unfolding found bytesOf turnOf allowedLine instructed fetchedOf cellOf reservedOf lengthOf costOf untakenOf steppedPlace
     constantPlace accumulatorPlace indexedPlace operandPlace executed withOperand controlled accumulated changed withAEffect
     inAEffect firstRegisters secondRegisters registered registersEffect multiplied productEffect shortEffect interruptEffect
 bench-rows = refl

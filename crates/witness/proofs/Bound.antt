@@ -8,7 +8,7 @@ use lib.Dec.{T, ltb, ltb→lt}
 use lib.ListN.{getD, List·getD-map}
 use borrow.Author.Tests.{le-leb}
 use Rattle.word.proofs.Table.{holds}
-use Rattle.memory.specs.Memory.{storeAll, AreBytes}
+use Rattle.memory.specs.Memory.{bytesOf, storeAll, AreBytes}
 use Rattle.schedule.specs.Schedule.{risingAfter, rising, inForce}
 use Rattle.opcodes.specs.Map.{cellOf}
 use Rattle.opcodes.specs.Postbyte.{reservedOf, lengthOf, costOf}
@@ -95,7 +95,7 @@ inRowFourteen =
 computed :
     (trace upAtTwo 3 (resetOf slowest) slowest ≡ fromReset)
     × (trace upAt101 2 (withClock (withPc noState 0x4002) 100) slowest ≡ inRowFourteen)
-unfolding trace slowest storeAll inForce turnOf allowedLine entryEffect instructed fetchedOf cellOf reservedOf
+unfolding trace slowest bytesOf storeAll inForce turnOf allowedLine entryEffect instructed fetchedOf cellOf reservedOf
     lengthOf costOf executed secondRegisters registered registersEffect accumulateEffect productEffect interruptEffect
 computed = (refl, refl)
 

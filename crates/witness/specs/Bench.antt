@@ -3,8 +3,8 @@
 use Prim.Native.Nat.{ℕ}
 use mathlib.Core.Path.{_≡_}
 use mathlib.Core.List.{List, [], _∷_, _++_}
-use lib.ListN.{replicate, getD}
-use Rattle.word.specs.Word.{wordOf}
+use lib.ListN.{replicate}
+use Rattle.memory.specs.Memory.{wordAt, bytesStored}
 use Rattle.state.specs.declared.State.{State}
 use Rattle.state.specs.Ccr.{ccrOf, flagsOf}
 use Rattle.state.specs.State.{noState, withA, withB, withX, withSp, withPc, withFlags, dOf}
@@ -53,11 +53,11 @@ twice e =
 
 -- SP, the word of the frame's last two bytes, and the cycles
 abbrev pub trapped : Effect → List ℕ
-trapped e = e .state .sp ∷ wordOf (getD (e .store .bytes) 7 0) (getD (e .store .bytes) 8 0) ∷ e .cost ∷ []
+trapped e = e .state .sp ∷ wordAt (bytesStored (e .store)) 7 ∷ e .cost ∷ []
 
 -- the numbers that each row asks for
-unfoldable pub given : List (List ℕ)
-given =
+unfoldable pub found : List (List ℕ)
+found =
     -- 1: reset, vector 40 00: PC, CCR
     (resetOf (image 0xFFFE (0x40 ∷ 0x00 ∷ [])) .pc ∷ ccrOf (resetOf (image 0xFFFE (0x40 ∷ 0x00 ∷ [])) .flags) ∷ [])
     -- 2: CCR D0, 86 7F 8B 01: A and CCR after both, and the cycles of each
@@ -105,4 +105,4 @@ wanted =
     ∷ []
 
 abbrev pub BenchRows : Type 0
-BenchRows = given ≡ wanted
+BenchRows = found ≡ wanted

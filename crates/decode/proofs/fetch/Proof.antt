@@ -36,8 +36,7 @@ first c κs = rw (c .full-cost .ensures, c .before .form-of .ensures)
 reserved : tie.Need-returns-2
 unfolding fetchedOf
 reserved c =
-    let second = c .before in
-    let one = second .before in
+    let one = c .before in
     let read = one .before .before .before in
     let passed = read .before in
     let asked = passed .before in
@@ -49,16 +48,38 @@ reserved c =
       ← (ap at-of (found .opcode-at .ensures)),
       ← (read .read-byte .ensures),
       ← (one .reserved .ensures),
-      ← (second .second-reserved .ensures),
       c .if2 .taken,
     )
 
-instruction : tie.Need-returns-3
+second-reserved : tie.Need-returns-3
+unfolding fetchedOf
+second-reserved c =
+    let second = c .before in
+    let free = second .before in
+    let one = free .before in
+    let read = one .before .before .before in
+    let passed = read .before in
+    let asked = passed .before in
+    let found = asked .before .before in
+    rw (
+      ← (ap cell-of (found .opcode-at .ensures)),
+      ← (asked .stops .ensures),
+      passed .if1 .left,
+      ← (ap at-of (found .opcode-at .ensures)),
+      ← (read .read-byte .ensures),
+      ← (one .reserved .ensures),
+      free .if2 .left,
+      ← (second .second-reserved .ensures),
+      c .if3 .taken,
+    )
+
+instruction : tie.Need-returns-4
 unfolding fetchedOf costOf
 instruction c =
-    let free = c .before in
-    let second = free .before in
-    let one = second .before in
+    let both-free = c .before in
+    let second = both-free .before in
+    let free = second .before in
+    let one = free .before in
     let cost = one .before in
     let form = cost .before in
     let read = form .before in
@@ -72,8 +93,9 @@ instruction c =
       ← (ap at-of (found .opcode-at .ensures)),
       ← (read .read-byte .ensures),
       ← (one .reserved .ensures),
-      ← (second .second-reserved .ensures),
       free .if2 .left,
+      ← (second .second-reserved .ensures),
+      both-free .if3 .left,
       ← (form .form-of .ensures),
       ← (cost .full-cost .ensures),
     )
@@ -90,7 +112,8 @@ fetch-spec =
     (λ c κs. search needs)
     priced
     first
-    (λ c κs. search needs)
     reserved
+    (λ c κs. search needs)
+    second-reserved
     (λ c κs. search needs)
     instruction)

@@ -1,16 +1,15 @@
 use borrow.Author.Needs.{needs}
+use Rattle.operand.specs.Operand.{movePlace}
 use Rattle.operand.proofs.first_place.Statement.{statement}
 use Rattle.operand.proofs.first_place.Tie as tie
 
-faithful : tie.Need-indexed-place-requires
-faithful c κs = let start = c .before in (start .pre .0, (start .pre .1 .postbyte, start .pre .1 .form))
-
 returns : tie.Need-returns
-returns c = c .indexed-place .ensures
+unfolding movePlace
+returns c = rw (← (c .before .before .pre .1 .postbyte)) (c .plain-place .ensures)
 
 pub first-place-spec : {M : Type 1} → statement M
 first-place-spec =
     tie.close
     (tie.spec
-    faithful
+    (λ c κs. search needs)
     returns)

@@ -1,14 +1,11 @@
 use borrow.Author.Needs.{needs}
+use Rattle.operand.specs.Operand.{movePlace}
 use Rattle.operand.proofs.second_place.Statement.{statement}
 use Rattle.operand.proofs.second_place.Tie as tie
 
-read : tie.Need-indexed-place-requires
-read c κs =
-    let byte = c .before in
-    (byte .before .before .pre, (byte .read-byte .ensures, c .form-of .ensures))
-
 returns : tie.Need-returns
-returns c = c .indexed-place .ensures
+unfolding movePlace
+returns c = rw (c .plain-place .ensures, c .before .read-byte .ensures)
 
 pub second-place-spec : {M : Type 1} → statement M
 second-place-spec =
@@ -16,5 +13,4 @@ second-place-spec =
     (tie.spec
     (λ c κs. search needs)
     (λ c κs. search needs)
-    read
     returns)
