@@ -29,9 +29,12 @@ pub record Left : Type 0 where
   pub state : List ℕ
   pub memory : List ℕ
 
+abbrev pub leftIs : ℕ → List ℕ → List ℕ → Left
+leftIs reply r m = record { reply = reply; state = r; memory = m }
+
 -- an end of the machine, in bytes
 abbrev pub told : End → Left
-told e = record { reply = e .reply; state = bytesOf (e .state) (e .cycles); memory = e .memory }
+told e = leftIs (e .reply) (bytesOf (e .state) (e .cycles)) (e .memory)
 
 -- The tests of what is lent; 0 is no refusal. First the length of the state record, then its waiting flag; and a packed schedule must
 -- not end within a record.
@@ -57,11 +60,11 @@ lentRefusal r schedule = firstOf (recordRefusal r) (packingRefusal schedule)
 
 -- what is left where nothing is refused; a refusal of the door's own leaves all as it was lent
 unfoldable pub unless : ℕ → List ℕ → List ℕ → Left → Left
-unless refusal r m l = pick (eqb refusal 0) l (record { reply = refusal; state = r; memory = m })
+unless refusal r m l = pick (eqb refusal 0) l (leftIs refusal r m)
 
 -- a reset needs no state: of the record it asks the length alone
 abbrev pub resetLeaves : List ℕ → List ℕ → Left
-resetLeaves r m = unless (lengthRefusal r) r m (record { reply = resetReply m; state = bytesOf (resetOf m) 0; memory = m })
+resetLeaves r m = unless (lengthRefusal r) r m (leftIs (resetReply m) (bytesOf (resetOf m) 0) m)
 
 -- a step of the state in the record
 abbrev pub stepLeaves : List ℕ → List ℕ → ℕ → Left

@@ -54,30 +54,25 @@ StoresExactly =
     byteAt (storeAll m start run) a
     ≡ pick (ltb (minusW a start) (length run)) (getD run (minusW a start) 0) (byteAt m a)
 
--- the stores that instructions make: none, a byte, a word, two words, and the nine bytes of a frame
-abbrev pub storeNumber : ℕ → ℕ → ℕ → Store
-storeNumber a count n = record { at = a; count = count; first = 0; number = n }
+abbrev pub storeIs : ℕ → ℕ → ℕ → ℕ → Store
+storeIs a count first n = record { at = a; count = count; first = first; number = n }
 
+-- the stores that instructions make: none, a byte, a word, two words, and the nine bytes of a frame
 abbrev pub noStore : Store
-noStore = storeNumber 0 0 0
+noStore = storeIs 0 0 0 0
 
 abbrev pub storeByte : ℕ → ℕ → Store
-storeByte a b = storeNumber a 1 b
+storeByte a b = storeIs a 1 0 b
 
 abbrev pub storeWord : ℕ → ℕ → Store
-storeWord a w = storeNumber a 2 w
+storeWord a w = storeIs a 2 0 w
 
 abbrev pub storeWords : ℕ → ℕ → ℕ → Store
-storeWords a w u = storeNumber a 4 (longOf w u)
+storeWords a w u = storeIs a 4 0 (longOf w u)
 
 abbrev pub storeNine : ℕ → List ℕ → Store
 storeNine a bs =
-    record {
-      at = a;
-      count = 9;
-      first = byteAt bs 0;
-      number = longOf (wordAt bs 1) (wordAt bs 3) * 4294967296 + longOf (wordAt bs 5) (wordAt bs 7);
-    }
+    storeIs a 9 (byteAt bs 0) (longOf (wordAt bs 1) (wordAt bs 3) * 4294967296 + longOf (wordAt bs 5) (wordAt bs 7))
 
 -- what each of them stores, byte by byte, where it is given a byte, words, and nine bytes
 pub record StoreByByte : Type 0 where

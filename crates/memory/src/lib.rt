@@ -3,7 +3,7 @@ ghost use mathlib.Core.Path.{_≡_};
 ghost use Prim.Native.Nat.{_<_, _≤_};
 ghost use lib.ListN.{length};
 ghost use Rattle.word.specs.Word.{plusW};
-ghost use Rattle.memory.specs.Memory.{byteAt, wordAt, byteOf, bytesOf, storeAll, committed, storeNumber, noStore, storeByte, storeWord, storeWords, storeNine};
+ghost use Rattle.memory.specs.Memory.{byteAt, wordAt, byteOf, bytesOf, storeAll, committed, storeIs, noStore, storeByte, storeWord, storeWords, storeNine};
 
 // What one step writes, from the address `at` upward: the `count` lowest bytes of `number`, the highest of them first. Of more than
 // eight the first is `first`, and the other eight are those of `number`. A store is numbers and no array of bytes because the compiler
@@ -16,14 +16,13 @@ pub struct Store {
 }
 
 impl Store {
-    // At most eight bytes, those of a number.
-    fn number(at: u16, count: u8, number: u64) -> Self
-        ensures { λ r. ⌜ r ≡ storeNumber at count number ⌝ }
+    fn of(at: u16, count: u8, first: u8, number: u64) -> Self
+        ensures { λ r. ⌜ r ≡ storeIs at count first number ⌝ }
     {
         Store {
             at: at,
             count: count,
-            first: 0,
+            first: first,
             number: number,
         }
     }
@@ -31,26 +30,26 @@ impl Store {
     pub fn none() -> Self
         ensures { λ r. ⌜ r ≡ noStore ⌝ }
     {
-        Store::number(0, 0, 0)
+        Store::of(0, 0, 0, 0)
     }
 
     pub fn byte(at: u16, b: u8) -> Self
         ensures { λ r. ⌜ r ≡ storeByte at b ⌝ }
     {
-        Store::number(at, 1, b as u64)
+        Store::of(at, 1, 0, b as u64)
     }
 
     pub fn word(at: u16, w: u16) -> Self
         ensures { λ r. ⌜ r ≡ storeWord at w ⌝ }
     {
-        Store::number(at, 2, w as u64)
+        Store::of(at, 2, 0, w as u64)
     }
 
     // Two words, the first at the lower address.
     pub fn words(at: u16, first: u16, second: u16) -> Self
         ensures { λ r. ⌜ r ≡ storeWords at first second ⌝ }
     {
-        Store::number(at, 4, word::long(first, second) as u64)
+        Store::of(at, 4, 0, word::long(first, second) as u64)
     }
 
     pub fn nine(at: u16, bytes: [u8; 9]) -> Self
@@ -64,12 +63,7 @@ impl Store {
             word::word(bytes[5], bytes[6]),
             word::word(bytes[7], bytes[8]),
         );
-        Store {
-            at: at,
-            count: 9,
-            first: bytes[0],
-            number: (high as u64) * 4294967296 + low as u64,
-        }
+        Store::of(at, 9, bytes[0], (high as u64) * 4294967296 + low as u64)
     }
 }
 

@@ -101,91 +101,94 @@ reset-sound m bytes whole =
 same-turn : (s s′ : State) (m m′ : List ℕ) (given : Given) → s ≡ s′ → m ≡ m′ → turnAt given s m ≡ turnAt given s′ m′
 same-turn s s′ m m′ given es em = λ i. turnAt given (es i) (em i)
 
-module _ (T n : ℕ) (m : List ℕ) (given : Given) (bytes : AreBytes m) (whole : length m ≡ 65536) (up : StaysUp T given) (first : FirstFrom T n m given) (clear : stateAt n m given .flags .x ≡ false) (on : NoStopBefore n m given) where
-  here : (k : ℕ) → Sound (stateAt k m given) (memoryAt k m given)
-  here k = sound-at k (resetOf m) m given (reset-sound m bytes whole)
+module _
+    (T n : ℕ) (m : List ℕ) (given : Given) (bytes : AreBytes m) (whole : length m ≡ 65536) (up : StaysUp T given)
+    (first : FirstFrom T n m given) (clear : stateAt n m given .flags .x ≡ false) (on : NoStopBefore n m given)
+  where
+    here : (k : ℕ) → Sound (stateAt k m given) (memoryAt k m given)
+    here k = sound-at k (resetOf m) m given (reset-sound m bytes whole)
 
-  turn : ℕ → Turn
-  turn k = turnAt given (stateAt k m given) (memoryAt k m given)
+    turn : ℕ → Turn
+    turn k = turnAt given (stateAt k m given) (memoryAt k m given)
 
-  -- a boundary before the first from T on is followed by T + 12
-  soon : (k : ℕ) → k < n → stateAt k m given .clock + turn k .effect .cost ≤ T + 12
-  unfolding turn
-  soon k h =
-      let early = first .1 k h in
-      let most = every-step-costs (stateAt k m given) (memoryAt k m given) _ (here k .bytes) (number-zero _ (on k h)) .1 in
-      omega (arith, early, most)
+    -- a boundary before the first from T on is followed by T + 12
+    soon : (k : ℕ) → k < n → stateAt k m given .clock + turn k .effect .cost ≤ T + 12
+    unfolding turn
+    soon k h =
+        let early = first .1 k h in
+        let most = every-step-costs (stateAt k m given) (memoryAt k m given) _ (here k .bytes) (number-zero _ (on k h)) .1 in
+        omega (arith, early, most)
 
-  -- the first boundary from T on comes by T + 12
-  by-twelve : (k : ℕ) → k ≡ n → stateAt n m given .clock ≤ T + 12
-  unfolding turn afterSteps
-  by-twelve zero e =
-      let at : 0 ≡ stateAt n m given .clock = ap (λ (j : ℕ). stateAt j m given .clock) e in
-      omega (arith, at)
-  by-twelve (suc k) e =
-      let at = ap (λ (j : ℕ). stateAt j m given .clock) e in
-      let next = ap (λ (s : State). s .clock) (one-on k (resetOf m) m given .state) in
-      let then = soon k (omega (arith, e)) in
-      omega (arith, at, next, then)
+    -- the first boundary from T on comes by T + 12
+    by-twelve : (k : ℕ) → k ≡ n → stateAt n m given .clock ≤ T + 12
+    unfolding turn afterSteps
+    by-twelve zero e =
+        let at : 0 ≡ stateAt n m given .clock = ap (λ (j : ℕ). stateAt j m given .clock) e in
+        omega (arith, at)
+    by-twelve (suc k) e =
+        let at = ap (λ (j : ℕ). stateAt j m given .clock) e in
+        let next = ap (λ (s : State). s .clock) (one-on k (resetOf m) m given .state) in
+        let then = soon k (omega (arith, e)) in
+        omega (arith, at, next, then)
 
-  is-zero : allowedLine (stateAt n m given .flags) (lineIn given (stateAt n m given .clock)) ≡ 0
-  is-zero =
-      let late = by-twelve n refl in
-      line-zero (stateAt n m given .flags) _ (up (stateAt n m given .clock) (first .0) (omega (arith, late))) clear
+    is-zero : allowedLine (stateAt n m given .flags) (lineIn given (stateAt n m given .clock)) ≡ 0
+    is-zero =
+        let late = by-twelve n refl in
+        line-zero (stateAt n m given .flags) _ (up (stateAt n m given .clock) (first .0) (omega (arith, late))) clear
 
-  enters : Entered (stateAt n m given) (memoryAt n m given) (turn n)
-  unfolding turn
-  enters = xirq-enters (stateAt n m given) (memoryAt n m given) _ (here n) is-zero
+    enters : Entered (stateAt n m given) (memoryAt n m given) (turn n)
+    unfolding turn
+    enters = xirq-enters (stateAt n m given) (memoryAt n m given) _ (here n) is-zero
 
-  -- no boundary up to that one stops the run, and each of these steps ends by T + 21
-  reaches : (k : ℕ) → k ≤ n → (numberOf (turn k .reply) ≡ 0) × (stateAt k m given .clock + turn k .effect .cost ≤ T + 21)
-  unfolding turn
-  reaches k h = go (decLt k n)
-    where
-      go : Dec (k < n) → (numberOf (turn k .reply) ≡ 0) × (stateAt k m given .clock + turn k .effect .cost ≤ T + 21)
-      go (yes l) = let then = soon k l in (on k l, omega (arith, then))
-      go (no l) = last (omega (arith, h, l))
-        where
-          last : k ≡ n → (numberOf (turn k .reply) ≡ 0) × (stateAt k m given .clock + turn k .effect .cost ≤ T + 21)
-          last e =
-              let late = by-twelve n refl in
-              let most = enters .cost in
-              rw e (enters .done, omega (arith, late, most))
+    -- no boundary up to that one stops the run, and each of these steps ends by T + 21
+    reaches : (k : ℕ) → k ≤ n → (numberOf (turn k .reply) ≡ 0) × (stateAt k m given .clock + turn k .effect .cost ≤ T + 21)
+    unfolding turn
+    reaches k h = go (decLt k n)
+      where
+        go : Dec (k < n) → (numberOf (turn k .reply) ≡ 0) × (stateAt k m given .clock + turn k .effect .cost ≤ T + 21)
+        go (yes l) = let then = soon k l in (on k l, omega (arith, then))
+        go (no l) = last (omega (arith, h, l))
+          where
+            last : k ≡ n → (numberOf (turn k .reply) ≡ 0) × (stateAt k m given .clock + turn k .effect .cost ≤ T + 21)
+            last e =
+                let late = by-twelve n refl in
+                let most = enters .cost in
+                rw e (enters .done, omega (arith, late, most))
 
-  -- so the run takes the step at that boundary
-  takes : (budget : ℕ) → T + 21 ≤ budget → (steps : ℕ) → IsOfSteps steps (resetOf m) m given budget (runOf (resetOf m) m given budget) → n < steps
-  unfolding turn
-  takes budget room steps is = go (decLt n steps)
-    where
-      go : Dec (n < steps) → n < steps
-      go (yes l) = l
-      go (no l) =
-          let at = reaches steps (omega (arith, l)) in
-          let same = same-turn _ _ _ _ given (is .state) (is .memory) in
-          let reply = is .reply ∙ ap (λ (t : Turn). numberOf (t .reply)) same ∙ at .0 in
-          let cost = ap (λ (t : Turn). t .effect .cost) same in
-          let clock = clock-at steps (resetOf m) m given in
-          let short = is .spent reply in
-          absurd (omega (arith, short, cost, is .used, clock, at .1, room))
+    -- so the run takes the step at that boundary
+    takes : (budget : ℕ) → T + 21 ≤ budget → (steps : ℕ) → IsOfSteps steps (resetOf m) m given budget (runOf (resetOf m) m given budget) → n < steps
+    unfolding turn
+    takes budget room steps is = go (decLt n steps)
+      where
+        go : Dec (n < steps) → n < steps
+        go (yes l) = l
+        go (no l) =
+            let at = reaches steps (omega (arith, l)) in
+            let same = same-turn _ _ _ _ given (is .state) (is .memory) in
+            let reply = is .reply ∙ ap (λ (t : Turn). numberOf (t .reply)) same ∙ at .0 in
+            let cost = ap (λ (t : Turn). t .effect .cost) same in
+            let clock = clock-at steps (resetOf m) m given in
+            let short = is .spent reply in
+            absurd (omega (arith, short, cost, is .used, clock, at .1, room))
 
-  warned : (budget : ℕ) → T + 21 ≤ budget → Warned T n m given budget
-  unfolding turn
-  warned budget room =
-      let next = one-on n (resetOf m) m given in
-      let end = reaches n (omega arith) .1 in
-      let at = ap (λ (s : State). s .clock) (next .state) in
-      record {
-        entered = is-zero;
-        taken = takes budget room;
-        by = omega (arith, at, end);
-        pc = ap (λ (s : State). s .pc) (next .state) ∙ enters .pc;
-        x = ap (λ (s : State). s .flags .x) (next .state) ∙ enters .x;
-        i = ap (λ (s : State). s .flags .i) (next .state) ∙ enters .i;
-        frame = λ j h.
-            ap (λ (s : State). byteAt (memoryAt (suc n) m given) (plusW (s .sp) j)) (next .state)
-            ∙ ap (λ (l : List ℕ). byteAt l (plusW (turnAt given (stateAt n m given) (memoryAt n m given) .effect .state .sp) j)) (next .memory)
-            ∙ enters .frame j h;
-      }
+    warned : (budget : ℕ) → T + 21 ≤ budget → Warned T n m given budget
+    unfolding turn
+    warned budget room =
+        let next = one-on n (resetOf m) m given in
+        let end = reaches n (omega arith) .1 in
+        let at = ap (λ (s : State). s .clock) (next .state) in
+        record {
+          entered = is-zero;
+          taken = takes budget room;
+          by = omega (arith, at, end);
+          pc = ap (λ (s : State). s .pc) (next .state) ∙ enters .pc;
+          x = ap (λ (s : State). s .flags .x) (next .state) ∙ enters .x;
+          i = ap (λ (s : State). s .flags .i) (next .state) ∙ enters .i;
+          frame = λ j h.
+              ap (λ (s : State). byteAt (memoryAt (suc n) m given) (plusW (s .sp) j)) (next .state)
+              ∙ ap (λ (l : List ℕ). byteAt l (plusW (turnAt given (stateAt n m given) (memoryAt n m given) .effect .state .sp) j)) (next .memory)
+              ∙ enters .frame j h;
+        }
 
 pub the-warning-is-never-late : TheWarningIsNeverLate
 the-warning-is-never-late T n m given budget bytes free up first clear on room =

@@ -6,7 +6,7 @@ use mathlib.Core.Path.{_≡_, refl, sym, _∙_}
 use mathlib.Core.Bool.{Bool, true}
 use Rattle.word.specs.Word.{pick, plusW}
 use Rattle.word.proofs.Laws.{word-below}
-use Rattle.memory.specs.Memory.{byteAt, wordAt, IsWhole, storeNumber, noStore, storeByte, storeWord, storeWords}
+use Rattle.memory.specs.Memory.{byteAt, wordAt, IsWhole, storeIs, noStore, storeByte, storeWord, storeWords}
 use Rattle.memory.proofs.Laws.{stored-bytes}
 use Rattle.state.specs.declared.Flags.{Flags}
 use Rattle.state.specs.declared.State.{State}
@@ -99,9 +99,9 @@ module _ {b : Before} where
   set-codes w same = take-codes w (λ e. sym same ∙ e)
 
   -- a number that is stored has no first byte apart; a frame has its CCR there
-  stored : {a count n : ℕ} → (Fits b → a < 65536) → (Fits b → IsWhole (storeNumber a count n)) → Stores b (storeNumber a count n)
+  stored : {a count n : ℕ} → (Fits b → a < 65536) → (Fits b → IsWhole (storeIs a count 0 n)) → Stores b (storeIs a count 0 n)
   stored {a} {count} {n} h whole =
-      record { address = h; bytes = λ k. stored-bytes (storeNumber a count n) (omega arith); whole = whole }
+      record { address = h; bytes = λ k. stored-bytes (storeIs a count 0 n) (omega arith); whole = whole }
 
   pub frame-stored : {s : State} → Comes b s → Stores b (frameStore s)
   frame-stored {s} w =

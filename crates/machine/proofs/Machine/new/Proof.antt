@@ -11,7 +11,16 @@ returns c =
     let x-set = s-set .before in
     let i-set = x-set .before in
     let none = i-set .before in
-    rw (c .of .ensures, placed .with-pc .ensures, flagged .with-flags .ensures, fresh .cleared2 .ensures, s-set .with-s .ensures, x-set .with-x .ensures, i-set .with-i .ensures, none .cleared .ensures)
+    rw (
+      c .of .ensures,
+      placed .with-pc .ensures,
+      flagged .with-flags .ensures,
+      fresh .cleared2 .ensures,
+      s-set .with-s .ensures,
+      x-set .with-x .ensures,
+      i-set .with-i .ensures,
+      none .cleared .ensures,
+    )
 
 pub new-spec : {M : Type 1} → statement M
 new-spec =

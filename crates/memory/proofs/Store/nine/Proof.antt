@@ -4,12 +4,14 @@ use Rattle.memory.proofs.Store.nine.Tie as tie
 
 returns : tie.Need-returns
 returns c =
-    let low-of = c .before in
+    let low = c .before in
+    let low-of = low .before in
     let low-word = low-of .before in
     let high = low-word .before in
     let high-low = high .before in
     rw (
-      c .long2 .ensures,
+      c .of .ensures,
+      low .long2 .ensures,
       low-of .word4 .ensures,
       low-word .word3 .ensures,
       high .long .ensures,
@@ -40,4 +42,5 @@ nine-spec =
     (λ c. search needs)
     (λ c. search needs)
     (λ c. search needs)
+    (λ c κs. search needs)
     returns)
