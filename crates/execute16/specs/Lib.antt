@@ -1,4 +1,3 @@
 pub mod Words
 pub mod Registers
-pub mod Products
 pub mod Lookups

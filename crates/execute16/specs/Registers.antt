@@ -13,7 +13,7 @@ use Rattle.alu.specs.Alu.{addByte, subByte, inxWord, dexWord}
 use Rattle.shift.specs.Shift.{lsrdWord, asldWord}
 use Rattle.decimal.specs.Decimal.{daaByte}
 use Rattle.codes.specs.Conditions.{andccOf, orccOf}
-use Rattle.codes.specs.Registers.{transferred}
+use Rattle.transfers.specs.Registers.{transferred}
 use Rattle.decode.specs.declared.Decoded.{Decoded}
 use Rattle.effect.specs.declared.Effect.{Effect}
 use Rattle.effect.specs.Effect.{quiet}

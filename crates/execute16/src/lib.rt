@@ -1,27 +1,21 @@
-// The instructions on words, the stores, the larger or smaller of two, what works on registers and condition codes alone,
-// multiplication, division and table lookup. Where an operand lies was found before; what two sizes may have is read here.
+// The instructions on words, the stores, the larger or smaller of two, what works on registers and condition codes alone, and table
+// lookup. Where an operand lies was found before; what two sizes may have is read here.
 use alu::Byte;
 use alu::Word;
-use decode::Decoded;
 use effect::Effect;
 use execute8::a_result;
 use execute8::b_result;
 use memory::Store;
 use opcodes::kind;
-use product::Division;
-use product::Long;
 use state::Flags;
 use state::State;
 ghost use mathlib.Core.Path.{_≡_};
 ghost use lib.ListN.{length};
-ghost use Rattle.word.specs.Word.{plusW, longOf};
-ghost use Rattle.memory.specs.Memory.{wordAt};
 ghost use Rattle.state.specs.State.{withFlags};
 ghost use Rattle.effect.specs.Effect.{quiet};
 ghost use Rattle.execute16.specs.Words.{loadedWord, dResult, xResult, yResult, spResult, compared as comparedOf};
 ghost use Rattle.execute16.specs.Words.{worded as wordedOf, wordWith, byteStored, wordStored, stored, byteChosen, wordChosen, chosen};
 ghost use Rattle.execute16.specs.Registers.{firstRegisters, secondRegisters, registered};
-ghost use Rattle.execute16.specs.Products.{ydResult, xdResult, ydDivided, multiplied as multipliedOf, accumulateEffect, productEffect};
 ghost use Rattle.execute16.specs.Lookups.{lookedUp};
 
 fn loaded_word(f: Flags, m: u16) -> Word
@@ -34,7 +28,7 @@ fn loaded_word(f: Flags, m: u16) -> Word
     }
 }
 
-fn d_result(s: State, r: Word) -> State
+pub fn d_result(s: State, r: Word) -> State
     ensures { λ t. ⌜ t ≡ dResult s r ⌝ }
 {
     let flags = r.flags;
@@ -200,7 +194,7 @@ fn second_registers(kind: u16, s: State, n: u8) -> State
         kind::TBA => a_result(s, execute8::loaded_byte(f, s.b)),
         kind::ANDCC => s.with_flags(codes::andcc(f, n)),
         kind::ORCC => s.with_flags(codes::orcc(f, n)),
-        kind::TFR_EXG => codes::transfer(s, n),
+        kind::TFR_EXG => transfers::transfer(s, n),
         _ => s,
     }
 }
@@ -213,79 +207,6 @@ pub fn registers(s: State, kind: u16, n: u8, cost: u8) -> Effect
         return effect::quiet(first_registers(kind, s), cost);
     }
     effect::quiet(second_registers(kind, s, n), cost)
-}
-
-fn yd_result(s: State, r: Long) -> State
-    ensures { λ t. ⌜ t ≡ ydResult s r ⌝ }
-{
-    let flags = r.flags;
-    s.with_y(word::high_word(r.value))
-        .with_d(word::low_word(r.value))
-        .with_flags(flags)
-}
-
-fn xd_result(s: State, r: Division) -> State
-    ensures { λ t. ⌜ t ≡ xdResult s r ⌝ }
-{
-    let flags = r.flags;
-    s.with_x(r.quotient).with_d(r.remainder).with_flags(flags)
-}
-
-fn yd_divided(s: State, r: Division) -> State
-    ensures { λ t. ⌜ t ≡ ydDivided s r ⌝ }
-{
-    let flags = r.flags;
-    s.with_y(r.quotient).with_d(r.remainder).with_flags(flags)
-}
-
-fn multiplied(kind: u16, s: State) -> State
-    ensures { λ t. ⌜ t ≡ multipliedOf kind s ⌝ }
-{
-    let f = s.flags;
-    match kind {
-        kind::MUL => d_result(s, product::mul(f, s.a, s.b)),
-        kind::EMUL => yd_result(s, product::emul(f, s.d(), s.y)),
-        kind::EMULS => yd_result(s, product::emuls(f, s.d(), s.y)),
-        kind::EDIV => yd_divided(s, product::ediv(f, s.y, s.d(), s.x)),
-        kind::EDIVS => yd_divided(s, product::edivs(f, s.y, s.d(), s.x)),
-        kind::IDIV => xd_result(s, product::idiv(f, s.d(), s.x)),
-        kind::IDIVS => xd_result(s, product::idivs(f, s.d(), s.x)),
-        _ => xd_result(s, product::fdiv(f, s.d(), s.x)),
-    }
-}
-
-fn read_long(m: &[u8], a: u16) -> u32
-    requires { ⌜ length (now m) ≡ 65536 ⌝ }
-    ensures { λ r. ⌜ r ≡ longOf (wordAt (now (m .entry)) a) (wordAt (now (m .entry)) (plusW a 2)) ⌝ }
-{
-    let high = memory::read_word(m, a);
-    let low = memory::read_word(m, word::plus(a, 2));
-    word::long(high, low)
-}
-
-fn accumulate(s: State, m: &[u8], cost: u8, a: u16) -> Effect
-    requires { ⌜ length (now m) ≡ 65536 ⌝ }
-    ensures { λ r. ⌜ r ≡ accumulateEffect s (now (m .entry)) cost a ⌝ }
-{
-    let f = s.flags;
-    let x = memory::read_word(m, s.x);
-    let y = memory::read_word(m, s.y);
-    let r = product::emacs(f, x, y, read_long(m, a));
-    let flags = r.flags;
-    let high = word::high_word(r.value);
-    let low = word::low_word(r.value);
-    effect::writes(s.with_flags(flags), cost, Store::words(a, high, low))
-}
-
-// Of the products only EMACS looks at memory, at an address that stands after its opcode.
-pub fn products(s: State, m: &[u8], d: Decoded) -> Effect
-    requires { ⌜ length (now m) ≡ 65536 ⌝ }
-    ensures { λ r. ⌜ r ≡ productEffect s (now (m .entry)) d ⌝ }
-{
-    if d.kind == kind::EMACS {
-        return accumulate(s, m, d.cost, memory::read_word(m, d.at));
-    }
-    effect::quiet(multiplied(d.kind, s), d.cost)
 }
 
 fn looked_up(kind: u16, s: State, m: &[u8], a: u16) -> State

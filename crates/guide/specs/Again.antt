@@ -4,9 +4,8 @@ use Prim.Native.Nat.{ℕ}
 use mathlib.Core.Path.{_≡_}
 use mathlib.Core.List.{List}
 use Rattle.memory.specs.Memory.{AreBytes}
-use Rattle.run.specs.Step.{refusal}
-use Rattle.run.specs.Given.{givenIs}
-use Rattle.run.specs.Run.{runRefusal}
+use Rattle.refusals.specs.Refusals.{refusal, runRefusal}
+use Rattle.refusals.specs.Given.{givenIs}
 use Rattle.records.specs.Records.{cyclesOf, linesOf}
 use Rattle.packing.specs.Bytes.{stateOf, bytesOf, recordsOf}
 use Rattle.packing.specs.Again.{stateBytes}

@@ -6,7 +6,7 @@ use lib.Dec.{eqb, ltb}
 use lib.ListN.{length}
 use Rattle.word.specs.Word.{pick}
 use Rattle.machine.specs.Reset.{resetReply, resetOf}
-use Rattle.run.specs.Given.{givenIs}
+use Rattle.refusals.specs.Given.{givenIs}
 use Rattle.run.specs.End.{End}
 use Rattle.run.specs.Step.{stepOf}
 use Rattle.run.specs.Run.{runOf}

@@ -10,7 +10,7 @@ use lib.Seq.{getD-set-same, getD-set-other, ext-getD}
 use native.Mathlib.Decide.{decLe, decLt, ℕ-discrete}
 use Rattle.word.specs.Word.{pick, highOf, lowOf, wordOf, longOf, plusW, minusW}
 use Rattle.memory.specs.declared.Store.{Store}
-use Rattle.memory.specs.Memory.{byteAt, byteOf, bytesOf, bytesStored, storeAll, committed, noStore, AreBytes, StoresExactly, StoreByByte}
+use Rattle.memory.specs.Memory.{byteAt, nthByte, lowestBytes, bytesStored, storeAll, committed, noStore, AreBytes, StoresExactly, StoreByByte}
 
 -- a store changes no length
 pub store-keeps : (m : List ℕ) (a : ℕ) (run : List ℕ) → length (storeAll m a run) ≡ length m
@@ -20,7 +20,7 @@ store-keeps m a (b ∷ bs) = store-keeps (set m a b) _ bs ∙ simp length-set
 
 -- nothing stored is the memory
 pub store-none : (m : List ℕ) → committed m noStore ≡ m
-unfolding storeAll bytesOf
+unfolding storeAll lowestBytes
 store-none m = refl
 
 -- What holds at each turn of the loop that stores a number: what is left to store gives the whole store.
@@ -28,28 +28,28 @@ pub record Storing (m₀ : List ℕ) (start count number : ℕ) (m : List ℕ) (
   pub whole : length m ≡ 65536
   pub inside : at < 65536
   pub few : left ≤ 8
-  pub rest : storeAll m at (bytesOf left number) ≡ storeAll m₀ start (bytesOf count number)
+  pub rest : storeAll m at (lowestBytes left number) ≡ storeAll m₀ start (lowestBytes count number)
 
 pub stored-one :
     {m₀ : List ℕ} {start count number : ℕ} {m : List ℕ} {at left k : ℕ} →
     left ≡ suc k →
     Storing m₀ start count number m at left →
-    Storing m₀ start count number (set m at (byteOf k number)) (plusW at 1) k
-unfolding storeAll bytesOf
+    Storing m₀ start count number (set m at (nthByte k number)) (plusW at 1) k
+unfolding storeAll lowestBytes
 stored-one {number = number} {m = m} {at = at} e s =
     record {
       whole = simp length-set (s .whole);
       inside = omega arith;
       few = omega (arith, e, s .few);
-      rest = sym (ap (λ left. storeAll m at (bytesOf left number)) e) ∙ s .rest;
+      rest = sym (ap (λ left. storeAll m at (lowestBytes left number)) e) ∙ s .rest;
     }
 
 pub stored-all :
     {m₀ : List ℕ} {start count number : ℕ} {m : List ℕ} {at left : ℕ} →
     Storing m₀ start count number m at left →
     left ≤ 0 →
-    m ≡ storeAll m₀ start (bytesOf count number)
-unfolding storeAll bytesOf
+    m ≡ storeAll m₀ start (lowestBytes count number)
+unfolding storeAll lowestBytes
 stored-all {left = zero} s h = s .rest
 stored-all {left = suc k} s h = absurd (omega (arith, h))
 
@@ -59,13 +59,13 @@ unfolding storeAll
 store-first m a b bs = refl
 
 -- so many bytes of a number are so many, and each is one
-bytes-count : (k n : ℕ) → length (bytesOf k n) ≡ k
-unfolding bytesOf
+bytes-count : (k n : ℕ) → length (lowestBytes k n) ≡ k
+unfolding lowestBytes
 bytes-count zero n = refl
 bytes-count (suc k) n = ap suc (bytes-count k n)
 
-bytes-below : (k n : ℕ) → AreBytes (bytesOf k n)
-unfolding bytesOf
+bytes-below : (k n : ℕ) → AreBytes (lowestBytes k n)
+unfolding lowestBytes
 bytes-below zero n a = omega arith
 bytes-below (suc k) n zero = omega arith
 bytes-below (suc k) n (suc a) = bytes-below k n a
@@ -81,7 +81,7 @@ stored-short w = go (decLt 8 (w .count))
 pub stored-bytes : (w : Store) → w .first < 256 → AreBytes (bytesStored w)
 stored-bytes w first = go (decLt 8 (w .count))
   where
-    nine : AreBytes (w .first ∷ bytesOf 8 (w .number))
+    nine : AreBytes (w .first ∷ lowestBytes 8 (w .number))
     nine zero = first
     nine (suc a) = bytes-below 8 (w .number) a
 
@@ -121,19 +121,19 @@ stores-exactly m start (b ∷ bs) a whole in-start short in-a =
 eight :
     (b7 b6 b5 b4 b3 b2 b1 b0 : ℕ) →
     b7 < 256 → b6 < 256 → b5 < 256 → b4 < 256 → b3 < 256 → b2 < 256 → b1 < 256 → b0 < 256 →
-    bytesOf 8 (longOf (wordOf b7 b6) (wordOf b5 b4) * 4294967296 + longOf (wordOf b3 b2) (wordOf b1 b0))
+    lowestBytes 8 (longOf (wordOf b7 b6) (wordOf b5 b4) * 4294967296 + longOf (wordOf b3 b2) (wordOf b1 b0))
     ≡ b7 ∷ b6 ∷ b5 ∷ b4 ∷ b3 ∷ b2 ∷ b1 ∷ b0 ∷ []
-unfolding bytesOf
+unfolding lowestBytes
 eight b7 b6 b5 b4 b3 b2 b1 b0 h7 h6 h5 h4 h3 h2 h1 h0 =
     let n = longOf (wordOf b7 b6) (wordOf b5 b4) * 4294967296 + longOf (wordOf b3 b2) (wordOf b1 b0) in
-    let is7 : byteOf 7 n ≡ b7 = omega arith in
-    let is6 : byteOf 6 n ≡ b6 = omega arith in
-    let is5 : byteOf 5 n ≡ b5 = omega arith in
-    let is4 : byteOf 4 n ≡ b4 = omega arith in
-    let is3 : byteOf 3 n ≡ b3 = omega arith in
-    let is2 : byteOf 2 n ≡ b2 = omega arith in
-    let is1 : byteOf 1 n ≡ b1 = omega arith in
-    let is0 : byteOf 0 n ≡ b0 = omega arith in
+    let is7 : nthByte 7 n ≡ b7 = omega arith in
+    let is6 : nthByte 6 n ≡ b6 = omega arith in
+    let is5 : nthByte 5 n ≡ b5 = omega arith in
+    let is4 : nthByte 4 n ≡ b4 = omega arith in
+    let is3 : nthByte 3 n ≡ b3 = omega arith in
+    let is2 : nthByte 2 n ≡ b2 = omega arith in
+    let is1 : nthByte 1 n ≡ b1 = omega arith in
+    let is0 : nthByte 0 n ≡ b0 = omega arith in
     λ i. is7 i ∷ is6 i ∷ is5 i ∷ is4 i ∷ is3 i ∷ is2 i ∷ is1 i ∷ is0 i ∷ []
 
 -- a list of nine, number by number
@@ -161,7 +161,7 @@ nine-listed bs nine = ext-getD 0 _ bs (sym nine) each
     each (suc (suc (suc (suc (suc (suc (suc (suc (suc i))))))))) h = absurd (omega (arith, h))
 
 pub store-by-byte : StoreByByte
-unfolding bytesOf
+unfolding lowestBytes
 store-by-byte =
     record {
       none = refl;
@@ -171,21 +171,21 @@ store-by-byte =
       nine = λ a bs nine h. ap (λ rest. byteAt bs 0 ∷ rest) (eight _ _ _ _ _ _ _ _ (h 1) (h 2) (h 3) (h 4) (h 5) (h 6) (h 7) (h 8)) ∙ nine-listed bs nine;
     }
   where
-    byte : (a b : ℕ) → b < 256 → byteOf 0 b ∷ [] ≡ b ∷ []
-    byte a b h = let is : byteOf 0 b ≡ b = omega (arith, h) in λ i. is i ∷ []
+    byte : (a b : ℕ) → b < 256 → nthByte 0 b ∷ [] ≡ b ∷ []
+    byte a b h = let is : nthByte 0 b ≡ b = omega (arith, h) in λ i. is i ∷ []
 
-    word : (a w : ℕ) → w < 65536 → byteOf 1 w ∷ byteOf 0 w ∷ [] ≡ highOf w ∷ lowOf w ∷ []
+    word : (a w : ℕ) → w < 65536 → nthByte 1 w ∷ nthByte 0 w ∷ [] ≡ highOf w ∷ lowOf w ∷ []
     word a w h =
-        let is1 : byteOf 1 w ≡ highOf w = omega (arith, h) in
-        let is0 : byteOf 0 w ≡ lowOf w = omega arith in
+        let is1 : nthByte 1 w ≡ highOf w = omega (arith, h) in
+        let is0 : nthByte 0 w ≡ lowOf w = omega arith in
         λ i. is1 i ∷ is0 i ∷ []
 
     words :
         (a w u : ℕ) → w < 65536 → u < 65536 →
-        bytesOf 4 (longOf w u) ≡ highOf w ∷ lowOf w ∷ highOf u ∷ lowOf u ∷ []
+        lowestBytes 4 (longOf w u) ≡ highOf w ∷ lowOf w ∷ highOf u ∷ lowOf u ∷ []
     words a w u h k =
-        let is3 : byteOf 3 (longOf w u) ≡ highOf w = omega (arith, h, k) in
-        let is2 : byteOf 2 (longOf w u) ≡ lowOf w = omega (arith, h, k) in
-        let is1 : byteOf 1 (longOf w u) ≡ highOf u = omega (arith, h, k) in
-        let is0 : byteOf 0 (longOf w u) ≡ lowOf u = omega (arith, h, k) in
+        let is3 : nthByte 3 (longOf w u) ≡ highOf w = omega (arith, h, k) in
+        let is2 : nthByte 2 (longOf w u) ≡ lowOf w = omega (arith, h, k) in
+        let is1 : nthByte 1 (longOf w u) ≡ highOf u = omega (arith, h, k) in
+        let is0 : nthByte 0 (longOf w u) ≡ lowOf u = omega (arith, h, k) in
         λ i. is3 i ∷ is2 i ∷ is1 i ∷ is0 i ∷ []

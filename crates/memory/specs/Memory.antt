@@ -21,17 +21,17 @@ storeAll m a [] = m
 storeAll m a (b ∷ bs) = storeAll (set m a b) (plusW a 1) bs
 
 -- byte k of a number, byte 0 the lowest
-abbrev pub byteOf : ℕ → ℕ → ℕ
-byteOf k n = n / 2 ^ (8 * k) % 256
+abbrev pub nthByte : ℕ → ℕ → ℕ
+nthByte k n = n / 2 ^ (8 * k) % 256
 
 -- the k lowest bytes of a number, the highest of them first, as a number stands in the memory
-unfoldable pub bytesOf : ℕ → ℕ → List ℕ
-bytesOf zero n = []
-bytesOf (suc k) n = byteOf k n ∷ bytesOf k n
+unfoldable pub lowestBytes : ℕ → ℕ → List ℕ
+lowestBytes zero n = []
+lowestBytes (suc k) n = nthByte k n ∷ lowestBytes k n
 
 -- the bytes of a store: the lowest of its number, as many as it counts; of more than eight the first stands apart
 abbrev pub bytesStored : Store → List ℕ
-bytesStored w = pick (ltb 8 (w .count)) (w .first ∷ bytesOf 8 (w .number)) (bytesOf (w .count) (w .number))
+bytesStored w = pick (ltb 8 (w .count)) (w .first ∷ lowestBytes 8 (w .number)) (lowestBytes (w .count) (w .number))
 
 -- a store cuts nothing off: its number has no more bytes than are stored
 abbrev pub IsWhole : Store → Type 0
@@ -74,7 +74,8 @@ abbrev pub storeNine : ℕ → List ℕ → Store
 storeNine a bs =
     storeIs a 9 (byteAt bs 0) (longOf (wordAt bs 1) (wordAt bs 3) * 4294967296 + longOf (wordAt bs 5) (wordAt bs 7))
 
--- what each of them stores, byte by byte, where it is given a byte, words, and nine bytes
+-- What each of them stores, byte by byte, where it is given a byte, words, and nine bytes. Both laws are proved under the same names in
+-- proofs/Laws.antt.
 pub record StoreByByte : Type 0 where
   pub none : bytesStored noStore ≡ []
   pub byte : (a b : ℕ) → b < 256 → bytesStored (storeByte a b) ≡ b ∷ []

@@ -3,7 +3,7 @@ ghost use mathlib.Core.Path.{_≡_};
 ghost use Prim.Native.Nat.{_<_, _≤_};
 ghost use lib.ListN.{length};
 ghost use Rattle.word.specs.Word.{plusW};
-ghost use Rattle.memory.specs.Memory.{byteAt, wordAt, byteOf, bytesOf, storeAll, committed, storeIs, noStore, storeByte, storeWord, storeWords, storeNine};
+ghost use Rattle.memory.specs.Memory.{byteAt, wordAt, nthByte, lowestBytes, storeAll, committed, storeIs, noStore, storeByte, storeWord, storeWords, storeNine};
 
 // What one step writes, from the address `at` upward: the `count` lowest bytes of `number`, the highest of them first. Of more than
 // eight the first is `first`, and the other eight are those of `number`. A store is numbers and no array of bytes because the compiler
@@ -91,9 +91,9 @@ pub fn read_word(m: &[u8], at: u16) -> u16
 }
 
 // Byte k of a number, byte 0 the lowest.
-fn byte_of(number: u64, k: u8) -> u8
+fn nth_byte(number: u64, k: u8) -> u8
     requires { ⌜ k < 8 ⌝ }
-    ensures { λ r. ⌜ r ≡ byteOf k number ⌝ }
+    ensures { λ r. ⌜ r ≡ nthByte k number ⌝ }
 {
     ((number >> (8 * (k as u32))) % 256) as u8
 }
@@ -102,13 +102,13 @@ fn byte_of(number: u64, k: u8) -> u8
 fn store_number(m: &mut [u8], start: u16, count: u8, number: u64)
     requires { ⌜ length (now m) ≡ 65536 ⌝ }
     requires { ⌜ count ≤ 8 ⌝ }
-    ensures { λ _. ⌜ now (m .exit) ≡ storeAll (now (m .entry)) start (bytesOf count number) ⌝ }
+    ensures { λ _. ⌜ now (m .exit) ≡ storeAll (now (m .entry)) start (lowestBytes count number) ⌝ }
 {
     let mut at = start;
     let mut left = count;
     while left > 0 {
         left -= 1;
-        m[at as usize] = byte_of(number, left);
+        m[at as usize] = nth_byte(number, left);
         at = next(at);
     }
 }

@@ -7,7 +7,7 @@ use Rattle.word.specs.Word.{pick}
 use Rattle.memory.specs.Memory.{byteAt, wordAt, storeByte, storeWord}
 use Rattle.state.specs.declared.State.{State}
 use Rattle.opcodes.specs.Kind.{MOVB}
-use Rattle.operand.specs.Operand.{routeOf}
+use Rattle.routes.specs.Routes.{routeOf}
 use Rattle.decode.specs.declared.Decoded.{Decoded}
 use Rattle.effect.specs.declared.Effect.{Effect}
 use Rattle.effect.specs.Effect.{writes}

@@ -87,7 +87,7 @@ fn move_byte(s: State, m: &[u8], d: Decoded) -> Effect
     requires { ⌜ Faithful (now m) d ⌝ }
     ensures { λ r. ⌜ r ≡ byteMoveEffect s (now (m .entry)) d ⌝ }
 {
-    let route = operand::route_of(s, m, d, false);
+    let route = routes::route_of(s, m, d, false);
     let t = route.state;
     effect::writes(
         t,
@@ -101,7 +101,7 @@ fn move_word(s: State, m: &[u8], d: Decoded) -> Effect
     requires { ⌜ Faithful (now m) d ⌝ }
     ensures { λ r. ⌜ r ≡ wordMoveEffect s (now (m .entry)) d ⌝ }
 {
-    let route = operand::route_of(s, m, d, true);
+    let route = routes::route_of(s, m, d, true);
     let t = route.state;
     effect::writes(
         t,

@@ -9,7 +9,7 @@ use Rattle.state.specs.Ccr.{setN, setZ, setC}
 use Rattle.alu.specs.declared.Word.{Word}
 use Rattle.alu.specs.Alu.{wideOf, setNZVC, carried, sumOverflow, exclusiveOr}
 use Rattle.product.specs.declared.Long.{Long}
-use Rattle.product.specs.Divide.{magnitudeOf}
+use Rattle.quotient.specs.Divide.{magnitudeOf}
 
 -- a result of 32 bits, with the codes that it gives
 abbrev pub longResult : ℕ → (ℕ → Flags) → Long

@@ -13,10 +13,11 @@ use Rattle.schedule.specs.Schedule.{accepted}
 use Rattle.machine.specs.Names.{numberOf, memorySize, recordLimit}
 use Rattle.machine.proofs.Laws.{number-most}
 use Rattle.memory.specs.Memory.{AreBytes}
-use Rattle.run.specs.Given.{Given, lineIn}
+use Rattle.refusals.specs.Given.{Given, lineIn}
 use Rattle.run.specs.End.{End, endsHere}
-use Rattle.run.specs.Step.{refusal, turnEnd, stepOf}
-use Rattle.run.specs.Run.{goesOn, pastLimit, runRefusal, runOf, turnAt, nextState, nextMemory}
+use Rattle.refusals.specs.Refusals.{refusal, pastLimit, runRefusal}
+use Rattle.run.specs.Step.{turnEnd, stepOf}
+use Rattle.run.specs.Run.{goesOn, runOf, turnAt, nextState, nextMemory}
 use Rattle.run.proofs.Refusals.{run-refused}
 use Rattle.run.proofs.OneStep.{costs-one, turn-rests}
 use Rattle.walk.specs.Words.{Words}

@@ -14,7 +14,7 @@ use Rattle.state.specs.declared.State.{State}
 use Rattle.state.specs.State.{withClock}
 use Rattle.stack.specs.Stack.{frameOf}
 use Rattle.turn.specs.Turn.{turnOf}
-use Rattle.run.specs.Given.{Given, lineIn}
+use Rattle.refusals.specs.Given.{Given, lineIn}
 use Rattle.run.specs.Step.{turnState, turnMemory}
 use Rattle.run.specs.Run.{turnAt, nextState, nextMemory}
 use Rattle.walk.specs.Words.{Words}

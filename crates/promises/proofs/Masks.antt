@@ -11,7 +11,8 @@ use Rattle.state.specs.declared.State.{State}
 use Rattle.effect.specs.declared.Effect.{Effect}
 use Rattle.stack.specs.Stack.{frameOf, interruptEffect, waitEffect}
 use Rattle.turn.specs.declared.Turn.{Turn}
-use Rattle.turn.specs.Turn.{allowedLine, masked, entryEffect, wakeEffect, turnOf}
+use Rattle.requests.specs.Requests.{allowedLine, masked, entryEffect, wakeEffect}
+use Rattle.turn.specs.Turn.{turnOf}
 use Rattle.walk.specs.Walk.{Before, Gives}
 use Rattle.walk.specs.Walk.Gives.{stores, untaken, waits}
 use Rattle.walk.specs.Turns.{Ways}

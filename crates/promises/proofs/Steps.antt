@@ -14,11 +14,13 @@ use Rattle.memory.specs.Memory.{bytesStored, AreBytes}
 use Rattle.memory.proofs.Laws.{store-keeps}
 use Rattle.machine.specs.Names.{numberOf}
 use Rattle.turn.specs.Turn.{turnOf}
-use Rattle.run.specs.Given.{Given, lineIn}
+use Rattle.refusals.specs.Given.{Given, lineIn}
 use Rattle.run.specs.End.{End, endsHere, after}
 use Rattle.run.specs.Step.{turnCost, turnState, turnMemory}
-use Rattle.run.specs.Run.{goesOn, runRefusal, runOf, turnAt, nextState, nextMemory}
-use Rattle.run.proofs.Refusals.{step-taken, run-taken, Free, is-free, run-free}
+use Rattle.refusals.specs.Refusals.{runRefusal}
+use Rattle.run.specs.Run.{goesOn, runOf, turnAt, nextState, nextMemory}
+use Rattle.refusals.proofs.Laws.{Free, is-free}
+use Rattle.run.proofs.Refusals.{step-taken, run-taken, run-free}
 use Rattle.run.proofs.Loop.{run-stops, run-spends, run-steps, after-twice, after-none}
 use Rattle.run.proofs.OneStep.{costs-one}
 use Rattle.walk.specs.Words.{Words}

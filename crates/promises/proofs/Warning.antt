@@ -18,11 +18,12 @@ use Rattle.machine.specs.Names.{numberOf, lineVector}
 use Rattle.machine.specs.Reset.{resetOf}
 use Rattle.machine.proofs.Laws.{number-zero}
 use Rattle.turn.specs.declared.Turn.{Turn}
-use Rattle.turn.specs.Turn.{allowedLine, entryEffect, wakeEffect, turnIs, turnOf}
+use Rattle.requests.specs.Requests.{allowedLine, entryEffect, wakeEffect}
+use Rattle.turn.specs.Turn.{turnIs, turnOf}
 use Rattle.walk.proofs.Bounds.{every-step-costs}
-use Rattle.run.specs.Given.{Given, lineIn}
+use Rattle.refusals.specs.Given.{Given, lineIn}
 use Rattle.run.specs.Run.{runOf, turnAt}
-use Rattle.run.proofs.Refusals.{is-free}
+use Rattle.refusals.proofs.Laws.{is-free}
 use Rattle.promises.specs.Steps.{afterSteps, IsOfSteps}
 use Rattle.promises.specs.Warning.{stateAt, memoryAt, StaysUp, FirstFrom, NoStopBefore, Warned, TheWarningIsNeverLate}
 use Rattle.walk.proofs.Registers.{Below, word-at, frame-bytes}

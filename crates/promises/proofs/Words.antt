@@ -7,12 +7,12 @@ use Rattle.word.specs.Word.{plusW}
 use Rattle.memory.specs.Memory.{storeAll, noStore, AreBytes}
 use Rattle.memory.proofs.Laws.{stored-bytes}
 use Rattle.state.specs.declared.State.{State}
-use Rattle.codes.proofs.Laws.{ccr-below}
+use Rattle.state.proofs.Laws.{ccr-below}
 use Rattle.effect.specs.declared.Effect.{Effect}
 use Rattle.effect.specs.Effect.{quiet}
 use Rattle.stack.specs.Stack.{frameStore, interruptEffect, waitEffect}
 use Rattle.turn.specs.declared.Turn.{Turn}
-use Rattle.turn.specs.Turn.{entryEffect, wakeEffect}
+use Rattle.requests.specs.Requests.{entryEffect, wakeEffect}
 use Rattle.walk.specs.Words.{Words}
 use Rattle.walk.specs.Walk.{Before, Fits, Gives}
 use Rattle.walk.specs.Walk.Gives.{stores, untaken, waits}

@@ -5,10 +5,11 @@ use mathlib.Core.Path.{_≡_}
 use mathlib.Core.List.{List}
 use Rattle.state.specs.declared.State.{State}
 use Rattle.memory.specs.Memory.{AreBytes}
-use Rattle.run.specs.Given.{Given}
+use Rattle.refusals.specs.Given.{Given}
 use Rattle.run.specs.End.{endsHere}
 use Rattle.run.specs.Step.{stepOf}
-use Rattle.run.specs.Run.{runRefusal, runOf}
+use Rattle.refusals.specs.Refusals.{runRefusal}
+use Rattle.run.specs.Run.{runOf}
 use Rattle.walk.specs.Words.{Words}
 use Rattle.promises.specs.Steps.{IsOfSteps}
 

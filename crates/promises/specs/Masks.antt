@@ -7,8 +7,9 @@ use mathlib.Core.List.{List}
 use Rattle.memory.specs.Memory.{noStore, storeNine}
 use Rattle.state.specs.declared.State.{State}
 use Rattle.stack.specs.Stack.{frameOf}
-use Rattle.turn.specs.Turn.{allowedLine, turnOf}
-use Rattle.run.specs.Given.{Given, lineIn}
+use Rattle.requests.specs.Requests.{allowedLine}
+use Rattle.turn.specs.Turn.{turnOf}
+use Rattle.refusals.specs.Given.{Given, lineIn}
 use Rattle.promises.specs.Steps.{afterSteps}
 
 -- X, once it is clear, stays clear, unless the step is an entry or the end of a wait by line 0, XIRQ

@@ -17,7 +17,7 @@ use Rattle.machine.specs.declared.Started.{Started}
 use Rattle.machine.specs.Names.{numberOf}
 use Rattle.machine.specs.Reset.{resetState, resetReply, resetOf}
 use Rattle.run.specs.declared.Answer.{Answer}
-use Rattle.run.specs.Given.{Given, givenIs}
+use Rattle.refusals.specs.Given.{Given, givenIs}
 use Rattle.run.specs.End.{End, Ends}
 use Rattle.run.specs.Step.{stepOf}
 use Rattle.run.specs.Run.{runOf}

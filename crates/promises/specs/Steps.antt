@@ -5,10 +5,11 @@ use mathlib.Core.List.{List}
 use Rattle.state.specs.declared.State.{State}
 use Rattle.machine.specs.Names.{numberOf}
 use Rattle.memory.specs.Memory.{AreBytes}
-use Rattle.run.specs.Given.{Given}
+use Rattle.refusals.specs.Given.{Given}
 use Rattle.run.specs.End.{End, endsHere, after}
-use Rattle.run.specs.Step.{refusal, turnEnd, stepOf}
-use Rattle.run.specs.Run.{turnAt, nextState, nextMemory, runRefusal, runOf}
+use Rattle.refusals.specs.Refusals.{refusal, runRefusal}
+use Rattle.run.specs.Step.{turnEnd, stepOf}
+use Rattle.run.specs.Run.{turnAt, nextState, nextMemory, runOf}
 use Rattle.walk.specs.Words.{Words}
 
 -- A single step that is not refused is the turn at its boundary: what a run takes as a step is what a single step does. (The step's own

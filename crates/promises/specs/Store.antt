@@ -8,7 +8,8 @@ use Rattle.word.specs.Word.{pick, minusW}
 use Rattle.memory.specs.Memory.{byteAt, bytesStored, AreBytes}
 use Rattle.state.specs.declared.State.{State}
 use Rattle.turn.specs.Turn.{turnOf}
-use Rattle.run.specs.Step.{refusal, stepOf}
+use Rattle.refusals.specs.Refusals.{refusal}
+use Rattle.run.specs.Step.{stepOf}
 use Rattle.walk.specs.Words.{Words}
 
 -- At every address the memory after a step has the byte of the step's store, where the address is in it, and else the byte that was

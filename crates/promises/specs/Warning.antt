@@ -10,9 +10,10 @@ use Rattle.state.specs.declared.State.{State}
 use Rattle.stack.specs.Stack.{frameOf}
 use Rattle.machine.specs.Names.{numberOf, lineVector}
 use Rattle.machine.specs.Reset.{resetOf}
-use Rattle.turn.specs.Turn.{allowedLine}
-use Rattle.run.specs.Given.{Given, lineIn}
-use Rattle.run.specs.Run.{runRefusal, runOf, turnAt}
+use Rattle.requests.specs.Requests.{allowedLine}
+use Rattle.refusals.specs.Given.{Given, lineIn}
+use Rattle.refusals.specs.Refusals.{runRefusal}
+use Rattle.run.specs.Run.{runOf, turnAt}
 use Rattle.promises.specs.Steps.{afterSteps, IsOfSteps}
 
 -- the state and the memory at boundary n of a run that starts from reset; boundary 0 is where it starts

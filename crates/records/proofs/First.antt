@@ -13,7 +13,7 @@ use Rattle.word.specs.Word.{pick}
 use Rattle.state.specs.declared.State.{State}
 use Rattle.schedule.specs.Schedule.{rising, accepted}
 use Rattle.machine.specs.Names.{memorySize, recordLimit}
-use Rattle.run.specs.Given.{givenIs}
+use Rattle.refusals.specs.Given.{givenIs}
 use Rattle.run.specs.End.{End, endsHere}
 use Rattle.run.specs.Run.{goesOn, runOf}
 use Rattle.records.specs.declared.Record.{Record}

@@ -3,7 +3,7 @@ use machine::Machine;
 use run::Answer;
 ghost use mathlib.Core.Path.{_≡_};
 ghost use Prim.Native.Nat.{_≤_};
-ghost use Rattle.run.specs.Given.{givenIs};
+ghost use Rattle.refusals.specs.Given.{givenIs};
 ghost use Rattle.run.specs.End.{Ends};
 ghost use Rattle.run.specs.Run.{runOf};
 ghost use Rattle.records.specs.Records.{recordIs, cyclesOf, linesOf, room, tableCycles, tableLines, noRecords, withRecord, gathered};

@@ -15,7 +15,7 @@ use Rattle.machine.specs.declared.Reply.the-variants.{Done}
 use Rattle.machine.specs.Names.{numberOf, clockLimit}
 use Rattle.turn.specs.declared.Turn.{Turn}
 use Rattle.run.specs.declared.Answer.{Answer}
-use Rattle.run.specs.Given.{Given, lineIn}
+use Rattle.refusals.specs.Given.{Given, lineIn}
 use Rattle.run.specs.End.{End, endIs, endsHere, after, Ends}
 use Rattle.run.specs.Step.{acted}
 use Rattle.run.specs.Run.{turnAt, nextState, nextMemory, goesOn}

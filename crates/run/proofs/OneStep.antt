@@ -17,7 +17,7 @@ use Rattle.turn.specs.declared.Turn.{Turn}
 use Rattle.turn.specs.Turn.{turnOf}
 use Rattle.walk.proofs.Turns.{turn-idle}
 use Rattle.walk.proofs.Bounds.{every-step-costs}
-use Rattle.run.specs.Given.{Given, givenIs}
+use Rattle.refusals.specs.Given.{Given, givenIs}
 use Rattle.run.specs.End.{endIs, endsHere, after}
 use Rattle.run.specs.Step.{acted, turnEnd, turnState, turnMemory, turnCost}
 use Rattle.run.specs.Run.{turnAt, goesOn}

@@ -1,4 +1,3 @@
-pub mod Given
 pub mod End
 pub mod Step
 pub mod Run

@@ -1,17 +1,16 @@
 -- A run: steps taken one after another, each under the line byte in force at its boundary's clock (document 01, "Numbered replies",
 -- "Requests").
 use Prim.Native.Nat.{ℕ, zero, suc, _+_, _-_}
-use mathlib.Core.Bool.{Bool, not, _||_}
+use mathlib.Core.Bool.{not}
 use mathlib.Core.List.{List}
 use lib.Dec.{ltb, eqb}
-use lib.ListN.{length}
 use Rattle.word.specs.Word.{pick}
 use Rattle.state.specs.declared.State.{State}
-use Rattle.schedule.specs.Schedule.{accepted}
-use Rattle.machine.specs.Names.{numberOf, memorySize, recordLimit, budgetLimit, clockLimit}
+use Rattle.machine.specs.Names.{numberOf}
+use Rattle.refusals.specs.Given.{Given, lineIn}
+use Rattle.refusals.specs.Refusals.{runRefusal}
 use Rattle.turn.specs.declared.Turn.{Turn}
 use Rattle.turn.specs.Turn.{turnOf}
-use Rattle.run.specs.Given.{Given, lineIn}
 use Rattle.run.specs.End.{End, endsHere, after}
 use Rattle.run.specs.Step.{turnState, turnMemory}
 
@@ -35,16 +34,6 @@ goesOn (suc boundaries) given s m left =
     pick (not (eqb reply 0)) (endsHere reply s m)
     (pick (ltb left cost) (endsHere 0 s m)
     (after cost (goesOn boundaries given (nextState given s m) (nextMemory given s m) (left - cost))))
-
--- reply 3: the budget, or the clock with the budget added, is past its limit
-abbrev pub pastLimit : ℕ → ℕ → Bool
-pastLimit clock budget = ltb budgetLimit budget || ltb clockLimit (clock + budget)
-
--- whether a run is refused: reply 1 for the memory, then 2 for the schedule, then 3 for the limits
-abbrev pub runRefusal : State → List ℕ → Given → ℕ → ℕ
-runRefusal s m given budget =
-    pick (not (eqb (length m) memorySize)) 1
-    (pick (not (accepted recordLimit (given .cycles) (given .lines))) 2 (pick (pastLimit (s .clock) budget) 3 0))
 
 -- a run: refused it leaves all as it was
 unfoldable pub runOf : State → List ℕ → Given → ℕ → End

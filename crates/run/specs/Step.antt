@@ -1,21 +1,16 @@
 -- A single step: reply, state, cycles used and all bytes, for every input (document 01, "Numbered replies").
 use Prim.Native.Nat.{ℕ, _+_}
-use mathlib.Core.Bool.{not}
 use mathlib.Core.List.{List}
-use lib.Dec.{ltb, eqb}
-use lib.ListN.{length}
+use lib.Dec.{eqb}
 use Rattle.word.specs.Word.{pick}
 use Rattle.memory.specs.Memory.{committed}
 use Rattle.state.specs.declared.State.{State}
 use Rattle.state.specs.State.{withClock}
 use Rattle.effect.specs.declared.Effect.{Effect}
-use Rattle.machine.specs.Names.{numberOf, memorySize, stepLimit}
+use Rattle.machine.specs.Names.{numberOf}
+use Rattle.refusals.specs.Refusals.{refusal}
 use Rattle.turn.specs.Turn.{turnOf}
 use Rattle.run.specs.End.{End, endIs, endsHere}
-
--- whether a step is refused: reply 1 for the memory, then 3 for the clock
-abbrev pub refusal : State → List ℕ → ℕ
-refusal s m = pick (not (eqb (length m) memorySize)) 1 (pick (ltb stepLimit (s .clock)) 3 0)
 
 -- the state after an effect: the clock has grown by its cost
 abbrev pub acted : State → Effect → State

@@ -1,5 +1,5 @@
-// One step under a line byte, and a run with a schedule and a budget: one loop. What is lent is tested here, and refused with
-// document 01's number.
+// One step under a line byte, and a run with a schedule and a budget: one loop. What is lent is tested first (`refusals`), and refused
+// with document 01's number.
 use effect::Effect;
 use machine::Machine;
 use machine::Reply;
@@ -12,11 +12,11 @@ ghost use Rattle.memory.specs.Memory.{committed};
 ghost use Rattle.opcodes.specs.Grid.{grid as gridOf};
 ghost use Rattle.opcodes.specs.Map.{opcodeMap};
 ghost use Rattle.schedule.specs.Schedule.{rising};
-ghost use Rattle.machine.specs.Names.{numberOf, clockLimit};
-ghost use Rattle.run.specs.Given.{givenIs};
+ghost use Rattle.machine.specs.Names.{clockLimit};
+ghost use Rattle.refusals.specs.Given.{givenIs};
 ghost use Rattle.run.specs.End.{Ends};
-ghost use Rattle.run.specs.Step.{refusal, acted, stepOf};
-ghost use Rattle.run.specs.Run.{pastLimit, runRefusal, goesOn, runOf};
+ghost use Rattle.run.specs.Step.{acted, stepOf};
+ghost use Rattle.run.specs.Run.{goesOn, runOf};
 
 // What a step or a run answers: the machine after it, and the cycles that it used.
 pub struct Answer {
@@ -38,42 +38,6 @@ fn answered(reply: Reply, state: State, cycles: u32) -> Answer
 
 // No step costs more, so that this budget is enough for any one.
 const ONE_STEP: u32 = 13;
-
-// The clock and the budget may each be any number of 32 bits: their sum is taken in 64.
-fn past_limit(clock: u32, budget: u32) -> bool
-    ensures { λ r. ⌜ r ≡ pastLimit clock budget ⌝ }
-{
-    (budget > Machine::BUDGET_LIMIT) | (clock as u64 + budget as u64 > Machine::CLOCK_LIMIT)
-}
-
-// What a step refuses, in this order; Done where it refuses nothing.
-fn step_refusal(s: State, m: &[u8]) -> Reply
-    ensures { λ r. ⌜ numberOf r ≡ refusal s (now (m .entry)) ⌝ }
-{
-    if m.len() != Machine::MEMORY {
-        return Reply::WrongMemory;
-    }
-    if s.clock > Machine::STEP_LIMIT {
-        return Reply::PastLimit;
-    }
-    Reply::Done
-}
-
-// What a run refuses, in this order; Done where it refuses nothing.
-fn run_refusal(s: State, m: &[u8], cycles: &[u32], lines: &[u8], budget: u32) -> Reply
-    ensures { λ r. ⌜ numberOf r ≡ runRefusal s (now (m .entry)) (givenIs (now (cycles .entry)) (now (lines .entry))) budget ⌝ }
-{
-    if m.len() != Machine::MEMORY {
-        return Reply::WrongMemory;
-    }
-    if !schedule::accepted(cycles, lines, Machine::RECORDS) {
-        return Reply::WrongSchedule;
-    }
-    if past_limit(s.clock, budget) {
-        return Reply::PastLimit;
-    }
-    Reply::Done
-}
 
 // What was worked out is done: its store is made, and the clock moves by its cost.
 fn act(s: State, m: &mut [u8], e: Effect) -> State
@@ -139,7 +103,7 @@ pub fn step(machine: Machine, m: &mut [u8], line: u8) -> Answer
     ensures { λ r. ⌜ Ends (stepOf (machine .state) (now (m .entry)) line) r (now (m .exit)) ⌝ }
 {
     let s = machine.state;
-    let refused = step_refusal(s, &m[..]);
+    let refused = refusals::step_refusal(s, &m[..]);
     if refused.number() != 0 {
         return answered(refused, s, 0);
     }
@@ -156,7 +120,7 @@ pub fn run(machine: Machine, m: &mut [u8], cycles: &[u32], lines: &[u8], budget:
     ensures { λ r. ⌜ Ends (runOf (machine .state) (now (m .entry)) (givenIs (now (cycles .entry)) (now (lines .entry))) budget) r (now (m .exit)) ⌝ }
 {
     let s = machine.state;
-    let refused = run_refusal(s, &m[..], cycles, lines, budget);
+    let refused = refusals::run_refusal(s, &m[..], cycles, lines, budget);
     if refused.number() != 0 {
         return answered(refused, s, 0);
     }

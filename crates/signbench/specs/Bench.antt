@@ -7,7 +7,7 @@ use Rattle.state.specs.declared.State.{State}
 use Rattle.state.specs.Ccr.{ccrOf}
 use Rattle.machine.specs.Names.{memorySize}
 use Rattle.machine.specs.Reset.{resetOf}
-use Rattle.run.specs.Given.{givenIs}
+use Rattle.refusals.specs.Given.{givenIs}
 use Rattle.run.specs.End.{End}
 use Rattle.run.specs.Run.{runOf}
 use Rattle.text.specs.Text.{ascii, numeral, hexByte, hexWord}

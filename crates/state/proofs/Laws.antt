@@ -1,5 +1,6 @@
 -- The laws of the condition code byte. Assumes nothing.
-use Prim.Native.Nat.{ℕ, _<_}
+use Prim.Native.Nat.{ℕ, _≤_, _<_}
+use native.Mathlib.Omega.{arith}
 use mathlib.Core.Path.{_≡_, refl}
 use mathlib.Core.Bool.{Bool, true, false, _&&_}
 use mathlib.Core.List.{List, [], _∷_}
@@ -8,7 +9,7 @@ use lib.ListN.{getD}
 use Rattle.word.specs.Word.{bitOf}
 use Rattle.word.proofs.Table.{at-number, at-bits, same, same-is}
 use Rattle.state.specs.declared.Flags.{Flags}
-use Rattle.state.specs.Ccr.{ccrOf, flagsOf, takeCcr, ByteAgain, FlagsAgain, NeverSetsX}
+use Rattle.state.specs.Ccr.{weightOf, ccrOf, flagsOf, takeCcr, ByteAgain, FlagsAgain, NeverSetsX}
 
 pub byte-again : ByteAgain
 byte-again b h = eqb→eq _ _ (at-number (λ n. eqb (ccrOf (flagsOf n)) n) 256 tt b h)
@@ -42,3 +43,22 @@ never-sets-x old b h = both-left (old .x) (bitOf 6 b) h
     both-left : (p q : Bool) → p && q ≡ true → p ≡ true
     both-left true q e = refl
     both-left false q e = e
+
+-- a flag adds its weight at most, so that the byte of the flags is one
+weight-most : (t : Bool) (w : ℕ) → weightOf t w ≤ w
+weight-most true w = omega arith
+weight-most false w = omega arith
+
+pub ccr-below : (f : Flags) → ccrOf f < 256
+ccr-below f =
+    omega (
+      arith,
+      weight-most (f .s) 128,
+      weight-most (f .x) 64,
+      weight-most (f .h) 32,
+      weight-most (f .i) 16,
+      weight-most (f .n) 8,
+      weight-most (f .z) 4,
+      weight-most (f .v) 2,
+      weight-most (f .c) 1,
+    )

@@ -1,14 +1,12 @@
 -- What comes next at a boundary (document 01, "Numbered replies": entry, waiting, 4, 5; "Requests").
 use Prim.Native.Nat.{ℕ}
-use mathlib.Core.Bool.{true, false, _&&_, not}
+use mathlib.Core.Bool.{true}
 use mathlib.Core.List.{List}
 use lib.Dec.{ltb, eqb}
-use Rattle.word.specs.Word.{pick, bitOf}
-use Rattle.memory.specs.Memory.{wordAt}
-use Rattle.state.specs.declared.Flags.{Flags}
+use Rattle.word.specs.Word.{pick}
 use Rattle.state.specs.declared.State.{State}
-use Rattle.state.specs.Ccr.{setX, setI}
-use Rattle.state.specs.State.{withPc, withFlags, withWaiting}
+use Rattle.state.specs.Ccr.{setI}
+use Rattle.state.specs.State.{withPc}
 use Rattle.opcodes.specs.Kind.{SWI, TRAP, groupOf, SHORT-BRANCHES, LONG-BRANCHES, WITH-A, WITH-B, WITH-WORD, STORES, IN-MEMORY, IN-A, IN-B, REGISTERS, PRODUCTS, STACK, CONTROL, ADDRESSES, CHOICES, MOVES, LOOKUPS}
 use Rattle.decode.specs.declared.Decoded.{Decoded}
 use Rattle.decode.specs.declared.Fetched.{Fetched}
@@ -19,7 +17,7 @@ use Rattle.effect.specs.Effect.{quiet}
 use Rattle.execute8.specs.Bytes.{withAEffect, withBEffect, inMemoryEffect, inAEffect, inBEffect}
 use Rattle.execute16.specs.Words.{withWordEffect, storeEffect, chooseEffect}
 use Rattle.execute16.specs.Registers.{registersEffect}
-use Rattle.execute16.specs.Products.{productEffect}
+use Rattle.products.specs.Products.{productEffect}
 use Rattle.execute16.specs.Lookups.{lookupEffect}
 use Rattle.stack.specs.Stack.{stackEffect, interruptEffect}
 use Rattle.flow.specs.Branches.{shortEffect, longEffect}
@@ -30,31 +28,8 @@ use Rattle.moves.specs.Bits.{bitsEffect}
 use Rattle.machine.specs.declared.Reply.{Reply}
 use Rattle.machine.specs.declared.Reply.the-variants.{Done, Stopped, ReservedPostbyte}
 use Rattle.turn.specs.declared.Turn.{Turn}
-use Rattle.machine.specs.Names.{swiVector, trapVector, lineVector, entryCost, wakeCost, idleCost}
-
--- The lowest line from 1 to 7 whose bit is set; 8 is none.
-abbrev pub lowestLine : ℕ → ℕ
-lowestLine line =
-    pick (bitOf 1 line) 1
-    (pick (bitOf 2 line) 2
-    (pick (bitOf 3 line) 3
-    (pick (bitOf 4 line) 4 (pick (bitOf 5 line) 5 (pick (bitOf 6 line) 6 (pick (bitOf 7 line) 7 8))))))
-
--- The line that is to be entered: XIRQ, bit 0, needs X clear, the others I clear; the lowest goes first; 8 is none.
-unfoldable pub allowedLine : Flags → ℕ → ℕ
-allowedLine f line = pick (bitOf 0 line && not (f .x)) 0 (pick (f .i) 8 (lowestLine line))
-
--- the masks after line k is entered: I, and X too for XIRQ
-abbrev pub masked : ℕ → Flags → Flags
-masked k f = pick (eqb k 0) (setX (setI f true) true) (setI f true)
-
--- an entry: the vector is read, the frame is pushed with the flags as they were, and the masks are set
-unfoldable pub entryEffect : State → List ℕ → ℕ → Effect
-entryEffect s m k = interruptEffect s m (lineVector k) (masked k (s .flags)) entryCost
-
--- the end of a wait: the vector is read, the masks are set, nothing is pushed
-unfoldable pub wakeEffect : State → List ℕ → ℕ → Effect
-wakeEffect s m k = quiet (withWaiting (withPc (withFlags s (masked k (s .flags))) (wordAt m (lineVector k))) false) wakeCost
+use Rattle.machine.specs.Names.{swiVector, trapVector, idleCost}
+use Rattle.requests.specs.Requests.{allowedLine, entryEffect, wakeEffect}
 
 -- what changes the flow and has no operand in memory, with SWI and the traps, which are entries by a vector and set I
 unfoldable pub controlled : State → List ℕ → Decoded → Effect

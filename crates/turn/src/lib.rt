@@ -6,105 +6,18 @@ use machine::Machine;
 use machine::Reply;
 use opcodes::group;
 use opcodes::kind;
-use state::Flags;
 use state::State;
 ghost use mathlib.Core.Path.{_≡_};
-ghost use Prim.Native.Nat.{_<_};
 ghost use lib.ListN.{length};
 ghost use Rattle.opcodes.specs.Grid.{grid as gridOf};
 ghost use Rattle.opcodes.specs.Map.{opcodeMap};
 ghost use Rattle.decode.specs.Decode.{Faithful, fetchedOf};
-ghost use Rattle.machine.specs.Names.{lineVector};
-ghost use Rattle.turn.specs.Turn.{lowestLine, allowedLine, masked as maskedOf, entryEffect, wakeEffect, controlled as controlledOf, withOperand, executed as executedOf, turnIs, ranOf, turnOf, instructed as instructedOf};
+ghost use Rattle.turn.specs.Turn.{controlled as controlledOf, withOperand, executed as executedOf, turnIs, ranOf, turnOf, instructed as instructedOf};
 
 // A turn worked out: what is done, and the reply; nothing is done where the reply is Stopped or ReservedPostbyte.
 pub struct Turn {
     pub reply: Reply,
     pub effect: Effect,
-}
-
-fn lowest_line(line: u8) -> u8
-    ensures { λ r. ⌜ r ≡ lowestLine line ⌝ }
-{
-    if line / 2 % 2 == 1 {
-        return 1;
-    }
-    if line / 4 % 2 == 1 {
-        return 2;
-    }
-    if line / 8 % 2 == 1 {
-        return 3;
-    }
-    if line / 16 % 2 == 1 {
-        return 4;
-    }
-    if line / 32 % 2 == 1 {
-        return 5;
-    }
-    if line / 64 % 2 == 1 {
-        return 6;
-    }
-    if line / 128 % 2 == 1 {
-        return 7;
-    }
-    8
-}
-
-// The line to be entered, or 8 where none is allowed. At most boundaries no line is up, so that is asked first.
-fn allowed_line(f: Flags, line: u8) -> u8
-    ensures { λ r. ⌜ r ≡ allowedLine f line ⌝ }
-{
-    if line == 0 {
-        return 8;
-    }
-    let warned = (line / 1 % 2 == 1) & !f.x;
-    if warned {
-        return 0;
-    }
-    if f.i {
-        return 8;
-    }
-    lowest_line(line)
-}
-
-fn masked(k: u8, f: Flags) -> Flags
-    ensures { λ r. ⌜ r ≡ maskedOf k f ⌝ }
-{
-    if k == 0 {
-        return f.with_i(true).with_x(true);
-    }
-    f.with_i(true)
-}
-
-fn line_vector(k: u8) -> u16
-    requires { ⌜ k < 8 ⌝ }
-    ensures { λ r. ⌜ r ≡ lineVector k ⌝ }
-{
-    Machine::XIRQ_VECTOR - 2 * (k as u16)
-}
-
-// Line k is entered: the frame holds the flags as they were.
-fn entry(s: State, m: &[u8], k: u8) -> Effect
-    requires { ⌜ length (now m) ≡ 65536 ⌝ }
-    requires { ⌜ k < 8 ⌝ }
-    ensures { λ r. ⌜ r ≡ entryEffect s (now (m .entry)) k ⌝ }
-{
-    let f = s.flags;
-    stack::interrupt(s, m, line_vector(k), masked(k, f), Machine::ENTRY_COST)
-}
-
-// Line k ends a wait. The frame was pushed when the wait began.
-fn wake(s: State, m: &[u8], k: u8) -> Effect
-    requires { ⌜ length (now m) ≡ 65536 ⌝ }
-    requires { ⌜ k < 8 ⌝ }
-    ensures { λ r. ⌜ r ≡ wakeEffect s (now (m .entry)) k ⌝ }
-{
-    let f = s.flags;
-    let target = memory::read_word(m, line_vector(k));
-    let after = s.with_flags(masked(k, f))
-        .with_pc(target)
-        .with_waiting(false);
-    effect::quiet(after, Machine::WAKE_COST)
 }
 
 fn controlled(s: State, m: &[u8], d: Decoded) -> Effect
@@ -162,7 +75,7 @@ fn executed(s: State, m: &[u8], d: Decoded) -> Effect
         group::IN_A => execute8::in_a(s, d.kind, d.cost),
         group::IN_B => execute8::in_b(s, d.kind, d.cost),
         group::REGISTERS => execute16::registers(s, d.kind, d.postbyte, d.cost),
-        group::PRODUCTS => execute16::products(s, m, d),
+        group::PRODUCTS => products::products(s, m, d),
         group::STACK => stack::stack(s, m, d.kind, d.cost),
         group::CONTROL => controlled(s, m, d),
         group::MOVES => moves::moves(s, m, d),
@@ -208,12 +121,12 @@ pub fn turn_at(map: &[u32; 512], grid: &[[u8; 8]; 18], s: State, m: &[u8], line:
 {
     let f = s.flags;
     let standing = s.standing;
-    let k = allowed_line(f, line);
+    let k = requests::allowed_line(f, line);
     if k < 8 {
         if standing.waiting {
-            return turn_is(Reply::Done, wake(s, m, k));
+            return turn_is(Reply::Done, requests::wake(s, m, k));
         }
-        return turn_is(Reply::Done, entry(s, m, k));
+        return turn_is(Reply::Done, requests::entry(s, m, k));
     }
     if standing.waiting {
         return turn_is(Reply::Done, effect::quiet(s, Machine::IDLE_COST));

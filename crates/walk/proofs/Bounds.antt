@@ -22,7 +22,8 @@ use Rattle.machine.specs.declared.Reply.{Reply}
 use Rattle.machine.specs.declared.Reply.the-variants.{Done}
 use Rattle.turn.specs.declared.Turn.{Turn}
 use Rattle.machine.specs.Names.{numberOf}
-use Rattle.turn.specs.Turn.{entryEffect, wakeEffect, turnOf}
+use Rattle.requests.specs.Requests.{entryEffect, wakeEffect}
+use Rattle.turn.specs.Turn.{turnOf}
 use Rattle.walk.specs.Bounds.{EveryStepCosts, EveryStoreIsShort}
 use Rattle.walk.specs.Walk.{IsBranch, Gives}
 use Rattle.walk.specs.Walk.IsBranch.{short, long}

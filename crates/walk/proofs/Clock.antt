@@ -6,7 +6,7 @@ use Rattle.state.specs.declared.State.{State}
 use Rattle.effect.specs.declared.Effect.{Effect}
 use Rattle.stack.specs.Stack.{interruptEffect, waitEffect}
 use Rattle.turn.specs.declared.Turn.{Turn}
-use Rattle.turn.specs.Turn.{entryEffect, wakeEffect}
+use Rattle.requests.specs.Requests.{entryEffect, wakeEffect}
 use Rattle.walk.specs.Walk.{Before, Gives}
 use Rattle.walk.specs.Walk.Gives.{stores, untaken, waits}
 use Rattle.walk.specs.Turns.{Ways}

@@ -8,8 +8,8 @@ use Rattle.state.specs.declared.Flags.{Flags}
 use Rattle.opcodes.specs.Kind.{memberOf, SUBA, CMPA, SBCA, ANDA, BITA, LDAA, EORA, ADCA, ORAA, NEG, COM, INC, DEC, LSR, ROL, ROR, ASR, ASL, CLR}
 use Rattle.alu.specs.declared.Byte.{Byte}
 use Rattle.alu.specs.Alu.{exclusiveOr}
-use Rattle.product.specs.declared.Division.{Division}
-use Rattle.product.specs.Divide.{noneSet, magnitudeOf, outside, edivOf, signedDivision, idivsOf, edivsOf}
+use Rattle.quotient.specs.declared.Division.{Division}
+use Rattle.quotient.specs.Divide.{noneSet, magnitudeOf, outside, edivOf, signedDivision, idivsOf, edivsOf}
 use Rattle.word.proofs.Laws.{both}
 use Rattle.execute8.specs.Bytes.{accumulated, changed}
 

@@ -11,10 +11,10 @@ use Rattle.memory.specs.Memory.{byteAt, wordAt}
 use Rattle.state.specs.declared.State.{State}
 use Rattle.state.specs.State.{withD, withY, dOf}
 use Rattle.state.proofs.Laws.{never-sets-x}
-use Rattle.codes.specs.Registers.{byteFrom, moved, signFill, backFill, transferred}
+use Rattle.transfers.specs.Registers.{byteFrom, moved, signFill, backFill, transferred}
 use Rattle.word.proofs.Laws.{both}
 use Rattle.codes.proofs.Laws.{andcc-keeps-x, orcc-keeps-x}
-use Rattle.product.specs.Divide.{idivOf, fdivOf, edivOf, idivsOf, edivsOf}
+use Rattle.quotient.specs.Divide.{idivOf, fdivOf, edivOf, idivsOf, edivsOf}
 use Rattle.product.proofs.Laws.{below}
 use Rattle.opcodes.specs.Kind.{SUBD, ADDD, CPD, CPY, CPX, CPS, LDD, LDY, LDX, STAA, STAB, STD, STY, STX, MAXA, MINA, EMAXD, EMIND, MAXM, MINM, EMAXM}
 use Rattle.opcodes.specs.Kind.{LSRD, ASLD, INX, INY, DEX, DEY, ABA, CBA, DAA, TAB, TBA, ANDCC, ORCC, TFR/EXG}
@@ -23,7 +23,7 @@ use Rattle.opcodes.specs.Postbyte.{transferReserved}
 use Rattle.decode.specs.declared.Decoded.{Decoded}
 use Rattle.execute16.specs.Words.{worded, withWordEffect, stored, storeEffect, chosen, chooseEffect}
 use Rattle.execute16.specs.Registers.{firstRegisters, secondRegisters, registered, registersEffect}
-use Rattle.execute16.specs.Products.{multiplied, accumulateEffect, productEffect}
+use Rattle.products.specs.Products.{multiplied, accumulateEffect, productEffect}
 use Rattle.execute16.specs.Lookups.{lookedUp, lookupEffect}
 use Rattle.walk.specs.Walk.{Before, before, Fits, Comes, Gives}
 use Rattle.walk.specs.Walk.Comes.{begins}

@@ -17,7 +17,7 @@ use Rattle.state.proofs.Laws.{never-sets-x}
 use Rattle.alu.specs.Alu.{allClear, allSet}
 use Rattle.codes.specs.Conditions.{conditionOf}
 use Rattle.codes.specs.Loops.{countByte, countWord}
-use Rattle.codes.proofs.Laws.{ccr-below}
+use Rattle.state.proofs.Laws.{ccr-below}
 use Rattle.opcodes.specs.Kind.{memberOf, PULX, PULY, PULA, PULB, PSHX, PSHY, PSHA, PSHB, PULC, PSHC, PULD}
 use Rattle.opcodes.specs.Kind.{BSR, RTS, RTI, WAI, LEAY, LEAX, LEAS, JMP, BSET, BCLR, BRSET, MOVB}
 use Rattle.decode.specs.declared.Decoded.{Decoded}

@@ -11,9 +11,10 @@ use Rattle.state.specs.declared.State.{State}
 use Rattle.word.proofs.Laws.{both}
 use Rattle.opcodes.specs.Mode.{IM, DI, EX, IM-EX, EX-EX, IM-ID, EX-ID, ID-EX}
 use Rattle.operand.specs.declared.Place.{Place}
-use Rattle.operand.specs.declared.Route.{Route}
+use Rattle.routes.specs.declared.Route.{Route}
 use Rattle.operand.specs.Indexed.{placeIs, withBase, steppedPlace, constantPlace, plainAccumulator, accumulatorPlace, stepsOf, indexedPlace}
-use Rattle.operand.specs.Operand.{operandPlace, movePlace, routeIs, immediateToIndexed, extendedToIndexed, indexedToExtended, indexedToIndexed, routeOf}
+use Rattle.routes.specs.Routes.{movePlace, routeIs, immediateToIndexed, extendedToIndexed, indexedToExtended, indexedToIndexed, routeOf}
+use Rattle.operand.specs.Operand.{operandPlace}
 use Rattle.decode.specs.declared.Decoded.{Decoded}
 use Rattle.walk.specs.Walk.{Before, before, Fits, Comes}
 use Rattle.walk.specs.Walk.Comes.{begins}

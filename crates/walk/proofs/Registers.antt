@@ -13,9 +13,9 @@ use Rattle.state.specs.declared.Flags.{Flags}
 use Rattle.state.specs.declared.State.{State}
 use Rattle.state.specs.Ccr.{ccrOf}
 use Rattle.state.specs.State.{withA, withB, withD, withX, withY, withSp, withPc, withFlags, withWaiting, withClock, dOf}
-use Rattle.codes.specs.Registers.{byteFrom, wordFrom}
+use Rattle.transfers.specs.Registers.{byteFrom, wordFrom}
 use Rattle.word.proofs.Laws.{both}
-use Rattle.codes.proofs.Laws.{ccr-below}
+use Rattle.state.proofs.Laws.{ccr-below}
 use Rattle.operand.specs.Indexed.{baseOf}
 use Rattle.stack.specs.Stack.{frameOf, frameStore}
 use Rattle.walk.specs.Words.{Words}

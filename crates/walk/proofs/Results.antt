@@ -18,10 +18,10 @@ use Rattle.shift.specs.Shift.{rightOf}
 use Rattle.decimal.specs.Lookup.{lookupOf}
 use Rattle.decimal.proofs.Laws.{lookup-below}
 use Rattle.codes.specs.Loops.{counted}
-use Rattle.product.specs.declared.Division.{Division}
-use Rattle.product.specs.Divide.{noneSet, magnitudeOf, signedOf, outside, byZero, tooLarge, divided}
-use Rattle.product.specs.Divide.{idivOf, fdivOf, edivOf, signedDivision, idivsOf, edivsOf}
-use Rattle.product.proofs.Laws.{divisor-zero, fraction-fits, magnitude-some, magnitude-most, inside-fits, remainder-fits}
+use Rattle.quotient.specs.declared.Division.{Division}
+use Rattle.quotient.specs.Divide.{noneSet, magnitudeOf, signedOf, outside, byZero, tooLarge, divided}
+use Rattle.quotient.specs.Divide.{idivOf, fdivOf, edivOf, signedDivision, idivsOf, edivsOf}
+use Rattle.quotient.proofs.Laws.{divisor-zero, fraction-fits, magnitude-some, magnitude-most, inside-fits, remainder-fits}
 use Rattle.execute8.specs.Bytes.{accumulated, changed}
 
 -- a result of 8 bits is a byte

@@ -12,7 +12,7 @@ use Rattle.state.specs.declared.Flags.{Flags}
 use Rattle.state.specs.declared.State.{State}
 use Rattle.state.specs.State.{withA, withB, withD, withX, withY, withSp, withPc, withFlags, dOf}
 use Rattle.word.proofs.Laws.{both}
-use Rattle.codes.proofs.Laws.{ccr-below}
+use Rattle.state.proofs.Laws.{ccr-below}
 use Rattle.effect.specs.declared.Effect.{Effect}
 use Rattle.effect.specs.Effect.{quiet, writes}
 use Rattle.stack.specs.Stack.{frameStore}

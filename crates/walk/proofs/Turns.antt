@@ -16,7 +16,8 @@ use Rattle.effect.specs.Effect.{quiet}
 use Rattle.machine.specs.declared.Reply.the-variants.{Done}
 use Rattle.machine.specs.Names.{numberOf, idleCost}
 use Rattle.turn.specs.declared.Turn.{Turn}
-use Rattle.turn.specs.Turn.{turnIs, allowedLine, entryEffect, wakeEffect, instructed, turnOf}
+use Rattle.requests.specs.Requests.{allowedLine, entryEffect, wakeEffect}
+use Rattle.turn.specs.Turn.{turnIs, instructed, turnOf}
 use Rattle.walk.specs.Words.{Words}
 use Rattle.walk.specs.Walk.{Fits}
 use Rattle.walk.specs.Turns.{instructionAt, atPc, NoneUp, Ways, EveryTurnGoes}

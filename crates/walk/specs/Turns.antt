@@ -14,7 +14,8 @@ use Rattle.effect.specs.Effect.{quiet}
 use Rattle.machine.specs.declared.Reply.the-variants.{Done, Stopped, ReservedPostbyte}
 use Rattle.turn.specs.declared.Turn.{Turn}
 use Rattle.machine.specs.Names.{idleCost}
-use Rattle.turn.specs.Turn.{turnIs, allowedLine, entryEffect, wakeEffect, turnOf}
+use Rattle.requests.specs.Requests.{allowedLine, entryEffect, wakeEffect}
+use Rattle.turn.specs.Turn.{turnIs, turnOf}
 use Rattle.walk.specs.Walk.{Before, before, Gives}
 
 -- the instruction at an address

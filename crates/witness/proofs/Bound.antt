@@ -8,21 +8,23 @@ use lib.Dec.{T, ltb, ltb→lt}
 use lib.ListN.{getD, List·getD-map}
 use borrow.Author.Tests.{le-leb}
 use Rattle.word.proofs.Table.{holds}
-use Rattle.memory.specs.Memory.{bytesOf, storeAll, AreBytes}
+use Rattle.memory.specs.Memory.{lowestBytes, storeAll, AreBytes}
 use Rattle.schedule.specs.Schedule.{risingAfter, rising, inForce}
 use Rattle.opcodes.specs.Map.{cellOf}
 use Rattle.opcodes.specs.Postbyte.{reservedOf, lengthOf, costOf}
 use Rattle.decode.specs.Decode.{fetchedOf}
 use Rattle.execute16.specs.Registers.{secondRegisters, registered, registersEffect}
-use Rattle.execute16.specs.Products.{accumulateEffect, productEffect}
+use Rattle.products.specs.Products.{accumulateEffect, productEffect}
 use Rattle.stack.specs.Stack.{interruptEffect}
 use Rattle.state.specs.declared.State.{State}
 use Rattle.state.specs.State.{noState, withPc, withClock}
 use Rattle.machine.specs.Names.{numberOf}
 use Rattle.machine.specs.Reset.{resetOf}
-use Rattle.run.specs.Given.{Given, givenIs}
-use Rattle.run.specs.Run.{runRefusal, turnAt, nextState, nextMemory}
-use Rattle.turn.specs.Turn.{allowedLine, entryEffect, executed, instructed, turnOf}
+use Rattle.refusals.specs.Given.{Given, givenIs}
+use Rattle.refusals.specs.Refusals.{runRefusal}
+use Rattle.run.specs.Run.{turnAt, nextState, nextMemory}
+use Rattle.requests.specs.Requests.{allowedLine, entryEffect}
+use Rattle.turn.specs.Turn.{executed, instructed, turnOf}
 use Rattle.promises.specs.Steps.{afterSteps}
 use Rattle.promises.specs.Warning.{stateAt, StaysUp, FirstFrom, NoStopBefore}
 use Rattle.witness.specs.Bound.{slowest, TheBoundIsReached, RowFourteen}
@@ -95,7 +97,7 @@ inRowFourteen =
 computed :
     (trace upAtTwo 3 (resetOf slowest) slowest ≡ fromReset)
     × (trace upAt101 2 (withClock (withPc noState 0x4002) 100) slowest ≡ inRowFourteen)
-unfolding trace slowest bytesOf storeAll inForce turnOf allowedLine entryEffect instructed fetchedOf cellOf reservedOf
+unfolding trace slowest lowestBytes storeAll inForce turnOf allowedLine entryEffect instructed fetchedOf cellOf reservedOf
     lengthOf costOf executed secondRegisters registered registersEffect accumulateEffect productEffect interruptEffect
 computed = (refl, refl)
 

@@ -7,8 +7,8 @@ use lib.ListN.{replicate}
 use Rattle.state.specs.State.{noState, withPc, withClock}
 use Rattle.machine.specs.Reset.{resetOf}
 use Rattle.memory.specs.Memory.{AreBytes}
-use Rattle.run.specs.Given.{Given, givenIs}
-use Rattle.run.specs.Run.{runRefusal}
+use Rattle.refusals.specs.Given.{Given, givenIs}
+use Rattle.refusals.specs.Refusals.{runRefusal}
 use Rattle.promises.specs.Steps.{afterSteps}
 use Rattle.promises.specs.Warning.{stateAt, StaysUp, FirstFrom, NoStopBefore}
 

@@ -1,7 +1,7 @@
 use borrow.Author.Needs.{needs}
 use mathlib.Core.Path.{sym, _∙_, ap}
 use Rattle.state.specs.declared.State.{State}
-use Rattle.run.specs.Given.{givenIs}
+use Rattle.refusals.specs.Given.{givenIs}
 use Rattle.run.specs.Run.{runOf}
 use Rattle.records.specs.declared.Table.{Table}
 use Rattle.records.specs.Records.{tableCycles, tableLines}

@@ -19,7 +19,7 @@ loop-again : tie.Need-loop-again Inv-loop μ-loop
 loop-again c =
     let wrote = c .before in
     let turn = wrote .before .before in
-    rw (c .next .ensures, wrote .byte-of .ensures) (stored-one (omega (arith, wrote .before .loop-test .taken)) (turn .loop .inv))
+    rw (c .next .ensures, wrote .nth-byte .ensures) (stored-one (omega (arith, wrote .before .loop-test .taken)) (turn .loop .inv))
 
 returns : tie.Need-returns Inv-loop μ-loop
 returns c = stored-all (c .before .loop .inv) (c .loop-test .left)

@@ -49,7 +49,7 @@ use Rattle.machine.specs.declared.Machine.{Machine}
 use Rattle.machine.proofs.Machine as S
 use Rattle.machine.proofs.Machine.Laws as S′
 use Rattle.run.specs.declared.Answer.{Answer}
-use Rattle.run.specs.Given.{givenIs}
+use Rattle.refusals.specs.Given.{givenIs}
 use Rattle.run.specs.End.{End, Ends}
 use Rattle.run.specs.Run.{runOf}
 use Rattle.run.proofs.Answer as D

@@ -2,7 +2,7 @@ use native.Mathlib.Omega.{arith}
 use mathlib.Core.Path.{_≡_, sym, _∙_, ap}
 use borrow.Author.Needs.{needs}
 use Rattle.turn.specs.Turn.{turnOf}
-use Rattle.run.specs.Given.{givenIs}
+use Rattle.refusals.specs.Given.{givenIs}
 use Rattle.run.specs.Run.{turnAt}
 use Rattle.run.proofs.Loop.{Going, begun, in-force-here, turned, ends-over, ends-stopped, ends-spent}
 use Rattle.run.proofs.go.Statement.{statement}

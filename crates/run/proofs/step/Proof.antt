@@ -3,8 +3,9 @@ use mathlib.Core.Path.{_≡_, refl, sym, _∙_, ap}
 use borrow.Author.Needs.{needs}
 use Rattle.schedule.specs.Schedule.{rising, risingAfter}
 use Rattle.machine.specs.Names.{numberOf}
-use Rattle.run.specs.Step.{refusal}
-use Rattle.run.proofs.Refusals.{StepFree, is-step-free, step-refused, step-taken}
+use Rattle.refusals.specs.Refusals.{refusal}
+use Rattle.refusals.proofs.Laws.{StepFree, is-step-free}
+use Rattle.run.proofs.Refusals.{step-refused, step-taken}
 use Rattle.run.proofs.Loop.{ends-as, ends-same}
 use Rattle.run.proofs.OneStep.{one-step}
 use Rattle.run.proofs.step.Statement.{statement}

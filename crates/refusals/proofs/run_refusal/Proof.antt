@@ -1,0 +1,40 @@
+use borrow.Author.Needs.{needs}
+use borrow.Author.Tests.{eq-eqb, ne-eqb}
+use Rattle.refusals.proofs.run_refusal.Statement.{statement}
+use Rattle.refusals.proofs.run_refusal.Tie as tie
+
+wrong-memory : tie.Need-returns
+wrong-memory c = rw (ne-eqb _ _ (c .if1 .taken))
+
+wrong-schedule : tie.Need-returns-2
+wrong-schedule c =
+    let asked = c .before in
+    rw (eq-eqb _ _ (asked .before .if1 .left), ← (asked .accepted .ensures), c .if2 .taken)
+
+past-limit : tie.Need-returns-3
+past-limit c =
+    let limits = c .before in
+    let asked = limits .before .before in
+    rw (
+      eq-eqb _ _ (asked .before .if1 .left),
+      ← (asked .accepted .ensures),
+      limits .before .if2 .left,
+      ← (limits .past-limit .ensures),
+      c .if3 .taken,
+    )
+
+none : tie.Need-returns-4
+none c =
+    let limits = c .before in
+    let asked = limits .before .before in
+    rw (
+      eq-eqb _ _ (asked .before .if1 .left),
+      ← (asked .accepted .ensures),
+      limits .before .if2 .left,
+      ← (limits .past-limit .ensures),
+      c .if3 .left,
+    )
+
+pub run-refusal-spec : {M : Type 1} → statement M
+run-refusal-spec =
+    tie.close (tie.spec wrong-memory (λ c κs. search needs) wrong-schedule (λ c κs. search needs) past-limit none)

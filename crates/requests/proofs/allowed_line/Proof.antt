@@ -1,0 +1,35 @@
+use mathlib.Core.Path.{_≡_, refl, sym}
+use mathlib.Core.Bool.{Bool, true, false}
+use Rattle.word.specs.Word.{pick}
+use Rattle.state.specs.declared.Flags.{Flags}
+use Rattle.requests.specs.Requests.{lowestLine, allowedLine}
+use borrow.Author.Needs.{needs}
+use Rattle.requests.proofs.allowed_line.Statement.{statement}
+use Rattle.requests.proofs.allowed_line.Tie as tie
+
+-- where no line is up none is allowed, whatever the masks
+none-up : (f : Flags) → allowedLine f 0 ≡ 8
+unfolding allowedLine
+none-up f = go (f .i)
+  where
+    go : (i : Bool) → pick i 8 (lowestLine 0) ≡ 8
+    go true = refl
+    go false = refl
+
+quiet : tie.Need-returns
+quiet c = rw (c .if1 .taken) (sym (none-up _))
+
+warned : tie.Need-returns-2
+unfolding allowedLine
+warned c = rw (c .if2 .taken)
+
+masked : tie.Need-returns-3
+unfolding allowedLine
+masked c = rw (c .before .if2 .left, c .if3 .taken)
+
+lowest : tie.Need-returns-4
+unfolding allowedLine
+lowest c = rw (c .before .before .if2 .left, c .before .if3 .left, c .lowest-line .ensures)
+
+pub allowed-line-spec : {M : Type 1} → statement M
+allowed-line-spec = tie.close (tie.spec quiet warned masked (λ c κs. search needs) lowest)

@@ -1,0 +1,39 @@
+-- The lines of request: which is entered, and what an entry and the end of a wait do (document 01, "Requests").
+use Prim.Native.Nat.{ℕ}
+use mathlib.Core.Bool.{true, false, _&&_, not}
+use mathlib.Core.List.{List}
+use lib.Dec.{eqb}
+use Rattle.word.specs.Word.{pick, bitOf}
+use Rattle.memory.specs.Memory.{wordAt}
+use Rattle.state.specs.declared.Flags.{Flags}
+use Rattle.state.specs.declared.State.{State}
+use Rattle.state.specs.Ccr.{setX, setI}
+use Rattle.state.specs.State.{withPc, withFlags, withWaiting}
+use Rattle.effect.specs.declared.Effect.{Effect}
+use Rattle.effect.specs.Effect.{quiet}
+use Rattle.stack.specs.Stack.{interruptEffect}
+use Rattle.machine.specs.Names.{lineVector, entryCost, wakeCost}
+
+-- The lowest line from 1 to 7 whose bit is set; 8 is none.
+abbrev pub lowestLine : ℕ → ℕ
+lowestLine line =
+    pick (bitOf 1 line) 1
+    (pick (bitOf 2 line) 2
+    (pick (bitOf 3 line) 3
+    (pick (bitOf 4 line) 4 (pick (bitOf 5 line) 5 (pick (bitOf 6 line) 6 (pick (bitOf 7 line) 7 8))))))
+
+-- The line that is to be entered: XIRQ, bit 0, needs X clear, the others I clear; the lowest goes first; 8 is none.
+unfoldable pub allowedLine : Flags → ℕ → ℕ
+allowedLine f line = pick (bitOf 0 line && not (f .x)) 0 (pick (f .i) 8 (lowestLine line))
+
+-- the masks after line k is entered: I, and X too for XIRQ
+abbrev pub masked : ℕ → Flags → Flags
+masked k f = pick (eqb k 0) (setX (setI f true) true) (setI f true)
+
+-- an entry: the vector is read, the frame is pushed with the flags as they were, and the masks are set
+unfoldable pub entryEffect : State → List ℕ → ℕ → Effect
+entryEffect s m k = interruptEffect s m (lineVector k) (masked k (s .flags)) entryCost
+
+-- the end of a wait: the vector is read, the masks are set, nothing is pushed
+unfoldable pub wakeEffect : State → List ℕ → ℕ → Effect
+wakeEffect s m k = quiet (withWaiting (withPc (withFlags s (masked k (s .flags))) (wordAt m (lineVector k))) false) wakeCost

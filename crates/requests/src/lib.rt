@@ -1,0 +1,94 @@
+// The lines of request: which is entered at a boundary, and what its entry or the end of a wait does.
+use effect::Effect;
+use machine::Machine;
+use state::Flags;
+use state::State;
+ghost use mathlib.Core.Path.{_≡_};
+ghost use Prim.Native.Nat.{_<_};
+ghost use lib.ListN.{length};
+ghost use Rattle.machine.specs.Names.{lineVector};
+ghost use Rattle.requests.specs.Requests.{lowestLine, allowedLine, masked as maskedOf, entryEffect, wakeEffect};
+
+fn lowest_line(line: u8) -> u8
+    ensures { λ r. ⌜ r ≡ lowestLine line ⌝ }
+{
+    if line / 2 % 2 == 1 {
+        return 1;
+    }
+    if line / 4 % 2 == 1 {
+        return 2;
+    }
+    if line / 8 % 2 == 1 {
+        return 3;
+    }
+    if line / 16 % 2 == 1 {
+        return 4;
+    }
+    if line / 32 % 2 == 1 {
+        return 5;
+    }
+    if line / 64 % 2 == 1 {
+        return 6;
+    }
+    if line / 128 % 2 == 1 {
+        return 7;
+    }
+    8
+}
+
+// The line to be entered, or 8 where none is allowed. At most boundaries no line is up, so that is asked first.
+pub fn allowed_line(f: Flags, line: u8) -> u8
+    ensures { λ r. ⌜ r ≡ allowedLine f line ⌝ }
+{
+    if line == 0 {
+        return 8;
+    }
+    let warned = (line / 1 % 2 == 1) & !f.x;
+    if warned {
+        return 0;
+    }
+    if f.i {
+        return 8;
+    }
+    lowest_line(line)
+}
+
+fn masked(k: u8, f: Flags) -> Flags
+    ensures { λ r. ⌜ r ≡ maskedOf k f ⌝ }
+{
+    if k == 0 {
+        return f.with_i(true).with_x(true);
+    }
+    f.with_i(true)
+}
+
+fn line_vector(k: u8) -> u16
+    requires { ⌜ k < 8 ⌝ }
+    ensures { λ r. ⌜ r ≡ lineVector k ⌝ }
+{
+    Machine::XIRQ_VECTOR - 2 * (k as u16)
+}
+
+// Line k is entered: the frame holds the flags as they were.
+pub fn entry(s: State, m: &[u8], k: u8) -> Effect
+    requires { ⌜ length (now m) ≡ 65536 ⌝ }
+    requires { ⌜ k < 8 ⌝ }
+    ensures { λ r. ⌜ r ≡ entryEffect s (now (m .entry)) k ⌝ }
+{
+    let f = s.flags;
+    stack::interrupt(s, m, line_vector(k), masked(k, f), Machine::ENTRY_COST)
+}
+
+// Line k ends a wait. The frame was pushed when the wait began.
+pub fn wake(s: State, m: &[u8], k: u8) -> Effect
+    requires { ⌜ length (now m) ≡ 65536 ⌝ }
+    requires { ⌜ k < 8 ⌝ }
+    ensures { λ r. ⌜ r ≡ wakeEffect s (now (m .entry)) k ⌝ }
+{
+    let f = s.flags;
+    let target = memory::read_word(m, line_vector(k));
+    let after = s.with_flags(masked(k, f))
+        .with_pc(target)
+        .with_waiting(false);
+    effect::quiet(after, Machine::WAKE_COST)
+}
