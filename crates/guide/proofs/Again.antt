@@ -9,9 +9,10 @@ use Rattle.word.specs.Word.{pick}
 use Rattle.run.specs.Step.{stepOf}
 use Rattle.run.specs.Run.{runOf}
 use Rattle.packing.proofs.Again.{bytes-again}
-use Rattle.guide.specs.Doors.{Left, recordRefusal, lentRefusal, unless}
+use Rattle.lent.specs.Lent.{recordRefusal, lentRefusal}
+use Rattle.guide.specs.Doors.{Left, unless}
 use Rattle.guide.specs.Again.{RecordAgain, AsLent, RefusedStepKeeps, RefusedRunKeeps}
-use Rattle.guide.proofs.Laws.{none-first, accepted}
+use Rattle.lent.proofs.Laws.{none-first, accepted}
 
 pub record-again : RecordAgain
 record-again r cycles bytes z = bytes-again r cycles bytes (accepted r z)

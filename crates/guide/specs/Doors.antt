@@ -1,9 +1,8 @@
--- What each door leaves, for every input: reply, state record and memory. The door's own refusals come before the machine's replies.
-use Prim.Native.Nat.{ℕ, _%_}
+-- What each door leaves, for every input: reply, state record and memory. The refusals of what is lent come before the machine's replies.
+use Prim.Native.Nat.{ℕ}
 use mathlib.Core.Path.{_≡_}
 use mathlib.Core.List.{List}
-use lib.Dec.{eqb, ltb}
-use lib.ListN.{length}
+use lib.Dec.{eqb}
 use Rattle.word.specs.Word.{pick}
 use Rattle.machine.specs.Reset.{resetReply, resetOf}
 use Rattle.refusals.specs.Given.{givenIs}
@@ -11,17 +10,8 @@ use Rattle.run.specs.End.{End}
 use Rattle.run.specs.Step.{stepOf}
 use Rattle.run.specs.Run.{runOf}
 use Rattle.records.specs.Records.{cyclesOf, linesOf}
-use Rattle.packing.specs.Bytes.{byteIn, recordSize, waitingPlace, packedSize, stateOf, bytesOf, recordsOf}
-
--- the numbers of the door's own refusals: a state record of another length, a waiting flag neither 0 nor 1, and a part of a record
-abbrev pub wrongLength : ℕ
-wrongLength = 100
-
-abbrev pub wrongFlag : ℕ
-wrongFlag = 101
-
-abbrev pub wrongPacking : ℕ
-wrongPacking = 102
+use Rattle.packing.specs.Bytes.{stateOf, bytesOf, recordsOf}
+use Rattle.lent.specs.Lent.{lengthRefusal, recordRefusal, lentRefusal}
 
 -- what a door leaves: the reply's number, the bytes of the state record, and the memory
 pub record Left : Type 0 where
@@ -35,28 +25,6 @@ leftIs reply r m = record { reply = reply; state = r; memory = m }
 -- an end of the machine, in bytes
 abbrev pub told : End → Left
 told e = leftIs (e .reply) (bytesOf (e .state) (e .cycles)) (e .memory)
-
--- The tests of what is lent; 0 is no refusal. First the length of the state record, then its waiting flag; and a packed schedule must
--- not end within a record.
-abbrev pub lengthRefusal : List ℕ → ℕ
-lengthRefusal r = pick (eqb (length r) recordSize) 0 wrongLength
-
-abbrev pub flagRefusal : List ℕ → ℕ
-flagRefusal r = pick (ltb 1 (byteIn r waitingPlace)) wrongFlag 0
-
-abbrev pub packingRefusal : List ℕ → ℕ
-packingRefusal schedule = pick (eqb (length schedule % packedSize) 0) 0 wrongPacking
-
--- the first of two tests that refuses
-unfoldable pub firstOf : ℕ → ℕ → ℕ
-firstOf a b = pick (eqb a 0) b a
-
--- what a step and what a run are refused for
-abbrev pub recordRefusal : List ℕ → ℕ
-recordRefusal r = firstOf (lengthRefusal r) (flagRefusal r)
-
-abbrev pub lentRefusal : List ℕ → List ℕ → ℕ
-lentRefusal r schedule = firstOf (recordRefusal r) (packingRefusal schedule)
 
 -- what is left where nothing is refused; a refusal of the door's own leaves all as it was lent
 unfoldable pub unless : ℕ → List ℕ → List ℕ → Left → Left

@@ -6,49 +6,7 @@ ghost use mathlib.Core.Path.{_≡_};
 ghost use lib.ListN.{length};
 ghost use Rattle.machine.specs.Names.{numberOf};
 ghost use Rattle.packing.specs.Bytes.{recordSize, bytesOf};
-ghost use Rattle.guide.specs.Doors.{lengthRefusal, recordRefusal, lentRefusal, resetLeaves, stepLeaves, runLeaves, Leaves};
-
-const WRONG_LENGTH: u32 = 100;
-
-const WRONG_FLAG: u32 = 101;
-
-const WRONG_PACKING: u32 = 102;
-
-// The tests of what is lent give the number of the first refusal, or 0 where there is none.
-fn length_refusal(r: &[u8]) -> u32
-    ensures { λ n. ⌜ n ≡ lengthRefusal (now (r .entry)) ⌝ }
-{
-    if r.len() == packing::STATE {
-        return 0;
-    }
-    WRONG_LENGTH
-}
-
-fn record_refusal(r: &[u8]) -> u32
-    ensures { λ n. ⌜ n ≡ recordRefusal (now (r .entry)) ⌝ }
-{
-    let refusal = length_refusal(r);
-    if refusal != 0 {
-        return refusal;
-    }
-    if r[packing::WAITING] > 1 {
-        return WRONG_FLAG;
-    }
-    0
-}
-
-fn lent_refusal(r: &[u8], schedule: &[u8]) -> u32
-    ensures { λ n. ⌜ n ≡ lentRefusal (now (r .entry)) (now (schedule .entry)) ⌝ }
-{
-    let refusal = record_refusal(r);
-    if refusal != 0 {
-        return refusal;
-    }
-    if schedule.len() % packing::PACKED == 0 {
-        return 0;
-    }
-    WRONG_PACKING
-}
+ghost use Rattle.guide.specs.Doors.{resetLeaves, stepLeaves, runLeaves, Leaves};
 
 // The machine's answer: its state and cycles go into the record, and its reply's number is returned.
 fn told(r: &mut [u8], answer: Answer) -> u32
@@ -66,7 +24,7 @@ fn told(r: &mut [u8], answer: Answer) -> u32
 pub extern "C" fn cpu12_reset(state: &mut [u8], m: &[u8]) -> u32
     ensures { λ r. ⌜ Leaves (resetLeaves (now (state .entry)) (now (m .entry))) r (now (state .exit)) (now (m .entry)) ⌝ }
 {
-    let refusal = length_refusal(&state[..]);
+    let refusal = lent::length_refusal(&state[..]);
     if refusal != 0 {
         return refusal;
     }
@@ -82,7 +40,7 @@ pub extern "C" fn cpu12_reset(state: &mut [u8], m: &[u8]) -> u32
 pub extern "C" fn cpu12_step(state: &mut [u8], m: &mut [u8], line: u8) -> u32
     ensures { λ r. ⌜ Leaves (stepLeaves (now (state .entry)) (now (m .entry)) line) r (now (state .exit)) (now (m .exit)) ⌝ }
 {
-    let refusal = record_refusal(&state[..]);
+    let refusal = lent::record_refusal(&state[..]);
     if refusal != 0 {
         return refusal;
     }
@@ -94,7 +52,7 @@ pub extern "C" fn cpu12_step(state: &mut [u8], m: &mut [u8], line: u8) -> u32
 pub extern "C" fn cpu12_run(state: &mut [u8], m: &mut [u8], schedule: &[u8], budget: u32) -> u32
     ensures { λ r. ⌜ Leaves (runLeaves (now (state .entry)) (now (m .entry)) (now (schedule .entry)) budget) r (now (state .exit)) (now (m .exit)) ⌝ }
 {
-    let refusal = lent_refusal(&state[..], schedule);
+    let refusal = lent::lent_refusal(&state[..], schedule);
     if refusal != 0 {
         return refusal;
     }

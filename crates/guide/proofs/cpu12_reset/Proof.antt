@@ -1,6 +1,7 @@
 use borrow.Author.Needs.{needs}
 use mathlib.Core.Path.{refl, sym, _∙_}
-use Rattle.guide.proofs.Laws.{other-length, door-refuses, door-opens}
+use Rattle.lent.proofs.Laws.{other-length}
+use Rattle.guide.proofs.Laws.{door-refuses, door-opens}
 use Rattle.guide.proofs.cpu12_reset.Statement.{statement}
 use Rattle.guide.proofs.cpu12_reset.Tie as tie
 

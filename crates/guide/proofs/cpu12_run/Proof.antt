@@ -9,7 +9,8 @@ use Rattle.records.proofs.Laws.{holds-first}
 use Rattle.records.proofs.First.{same-run}
 use Rattle.run.proofs.Loop.{ends-same}
 use Rattle.packing.specs.Bytes.{stateOf, recordsOf}
-use Rattle.guide.proofs.Laws.{none-first, accepted, door-refuses, door-opens, told-leaves}
+use Rattle.lent.proofs.Laws.{none-first, accepted}
+use Rattle.guide.proofs.Laws.{door-refuses, door-opens, told-leaves}
 use Rattle.guide.proofs.cpu12_run.Statement.{statement}
 use Rattle.guide.proofs.cpu12_run.Tie as tie
 

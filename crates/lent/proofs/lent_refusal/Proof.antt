@@ -1,8 +1,8 @@
 use borrow.Author.Needs.{needs}
 use borrow.Author.Tests.{eq-eqb, ne-eqb}
-use Rattle.guide.proofs.Laws.{first-refuses, first-passes}
-use Rattle.guide.proofs.lent_refusal.Statement.{statement}
-use Rattle.guide.proofs.lent_refusal.Tie as tie
+use Rattle.lent.proofs.Laws.{first-refuses, first-passes}
+use Rattle.lent.proofs.lent_refusal.Statement.{statement}
+use Rattle.lent.proofs.lent_refusal.Tie as tie
 
 none : tie.Need-returns-2
 none c =

@@ -2,9 +2,9 @@ use borrow.Author.Needs.{needs}
 use borrow.Author.Tests.{lt-ltb, le-ltb}
 use mathlib.Core.Path.{sym, _∙_}
 use native.Mathlib.Omega.{arith}
-use Rattle.guide.proofs.Laws.{other-length, first-refuses, first-passes}
-use Rattle.guide.proofs.record_refusal.Statement.{statement}
-use Rattle.guide.proofs.record_refusal.Tie as tie
+use Rattle.lent.proofs.Laws.{other-length, first-refuses, first-passes}
+use Rattle.lent.proofs.record_refusal.Statement.{statement}
+use Rattle.lent.proofs.record_refusal.Tie as tie
 
 reads-flag : tie.Need-shared-slice-read-if2
 reads-flag c =
