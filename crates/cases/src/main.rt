@@ -2,15 +2,15 @@
 
 use machine::Machine;
 use machine::Reply;
-use records::Record;
-use records::Table;
 use run::Answer;
 use state::Flags;
 use state::State;
+use table::Record;
+use table::Table;
 use text::Text;
 ghost use Prim.Native.Nat.{_≤_};
 ghost use lib.ListN.{length};
-ghost use Rattle.records.specs.Records.{room};
+ghost use Rattle.table.specs.Records.{room};
 
 // What a line was found to hold from a place on: a number, and where it ends. Not ok: no such number, and 0s.
 struct Parsed {
@@ -291,7 +291,7 @@ fn step(line: &[u8], at: usize, memory: &mut [u8]) -> Text
 fn table_of(line: &[u8], from: usize, count: u32) -> Listed
     ensures { λ r. ⌜ r .table .count ≤ room ⌝ }
 {
-    let mut t = records::empty();
+    let mut t = table::empty();
     let mut at = from;
     let mut left = count;
     while left > 0 {
@@ -304,7 +304,7 @@ fn table_of(line: &[u8], from: usize, count: u32) -> Listed
                 next: 0,
             };
         }
-        t = records::put(t, Record::of(cycle.value, low_byte(byte)));
+        t = table::put(t, Record::of(cycle.value, low_byte(byte)));
         at = byte.next;
         left -= 1;
     }

@@ -6,7 +6,7 @@ use mathlib.Core.List.{List}
 use Rattle.memory.specs.Memory.{AreBytes}
 use Rattle.refusals.specs.Refusals.{refusal, runRefusal}
 use Rattle.refusals.specs.Given.{givenIs}
-use Rattle.records.specs.Records.{cyclesOf, linesOf}
+use Rattle.table.specs.Records.{cyclesOf, linesOf}
 use Rattle.packing.specs.Bytes.{stateOf, bytesOf, recordsOf}
 use Rattle.packing.specs.Again.{stateBytes}
 use Rattle.lent.specs.Lent.{recordRefusal}

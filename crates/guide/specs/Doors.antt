@@ -9,7 +9,7 @@ use Rattle.refusals.specs.Given.{givenIs}
 use Rattle.run.specs.End.{End}
 use Rattle.run.specs.Step.{stepOf}
 use Rattle.run.specs.Run.{runOf}
-use Rattle.records.specs.Records.{cyclesOf, linesOf}
+use Rattle.table.specs.Records.{cyclesOf, linesOf}
 use Rattle.packing.specs.Bytes.{stateOf, bytesOf, recordsOf}
 use Rattle.lent.specs.Lent.{lengthRefusal, recordRefusal, lentRefusal}
 

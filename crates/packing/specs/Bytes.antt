@@ -7,8 +7,8 @@ use Rattle.word.specs.Word.{highOf, lowOf, wordOf, highWord, lowWord, longOf}
 use Rattle.state.specs.declared.State.{State}
 use Rattle.state.specs.Ccr.{weightOf, ccrOf, flagsOf}
 use Rattle.state.specs.State.{noState, withA, withB, withX, withY, withSp, withPc, withFlags, withWaiting, withClock}
-use Rattle.records.specs.declared.Record.{Record}
-use Rattle.records.specs.Records.{recordIs}
+use Rattle.table.specs.declared.Record.{Record}
+use Rattle.table.specs.Records.{recordIs}
 
 -- the byte, the word and the number of 32 bits that begin at a place
 abbrev pub byteIn : List ℕ → ℕ → ℕ

@@ -1,14 +1,14 @@
 // The machine's state and a schedule as bytes: docs/GUIDE-ABI.md has the state record and the packed schedule. What is refused is
 // told by who is lent the bytes (crates/guide).
-use records::Record;
-use records::Table;
 use state::Flags;
 use state::State;
+use table::Record;
+use table::Table;
 ghost use mathlib.Core.Path.{_≡_};
 ghost use Prim.Native.Nat.{_≤_, _+_};
 ghost use lib.ListN.{length};
 ghost use Rattle.state.specs.Ccr.{weightOf};
-ghost use Rattle.records.specs.Records.{noRecords, gathered};
+ghost use Rattle.table.specs.Records.{noRecords, gathered};
 ghost use Rattle.packing.specs.Bytes.{wordIn, longIn, recordSize, packedSize, stateOf, bytesOf, recordAt, recordsOf};
 
 // The bytes of a state record, and the place of its waiting flag.
@@ -113,10 +113,10 @@ fn record_at(bytes: &[u8], i: usize) -> Record
 pub fn unpacked(bytes: &[u8]) -> Table
     ensures { λ r. ⌜ r ≡ gathered noRecords (recordsOf (now (bytes .entry))) ⌝ }
 {
-    let mut t = records::empty();
+    let mut t = table::empty();
     let mut i = 0;
     while bytes.len() - i >= PACKED {
-        t = records::put(t, record_at(bytes, i));
+        t = table::put(t, record_at(bytes, i));
         i += PACKED;
     }
     t

@@ -21,8 +21,8 @@ use Rattle.refusals.specs.Given.{Given, givenIs}
 use Rattle.run.specs.End.{End, Ends}
 use Rattle.run.specs.Step.{stepOf}
 use Rattle.run.specs.Run.{runOf}
-use Rattle.records.specs.declared.Record.{Record}
-use Rattle.records.specs.Records.{cyclesOf, linesOf}
+use Rattle.table.specs.declared.Record.{Record}
+use Rattle.table.specs.Records.{cyclesOf, linesOf}
 
 abbrev pub OneNumber : Type 0
 OneNumber = (reply : Reply) (r r′ : ℕ) → r ≡ numberOf reply → r′ ≡ numberOf reply → r ≡ r′

@@ -16,9 +16,9 @@ use Rattle.machine.specs.Names.{memorySize, recordLimit}
 use Rattle.refusals.specs.Given.{givenIs}
 use Rattle.run.specs.End.{End, endsHere}
 use Rattle.run.specs.Run.{goesOn, runOf}
-use Rattle.records.specs.declared.Record.{Record}
-use Rattle.records.specs.Records.{cyclesOf, linesOf, room, tableCycles, tableLines, noRecords, gathered}
-use Rattle.records.proofs.Laws.{holds-first}
+use Rattle.table.specs.declared.Record.{Record}
+use Rattle.table.specs.Records.{cyclesOf, linesOf, room, tableCycles, tableLines, noRecords, gathered}
+use Rattle.table.proofs.Laws.{holds-first}
 
 -- a schedule of too many records is not accepted
 not-accepted : (cs ls : List ℕ) → recordLimit < length cs → accepted recordLimit cs ls ≡ false

@@ -1,8 +1,8 @@
 use Prim.Native.Nat.{_≤_}
 use mathlib.Core.List.{[]}
 use borrow.Author.Needs.{needs}
-use Rattle.records.specs.Records.{room}
-use Rattle.records.proofs.Laws.{put-within, holds-first}
+use Rattle.table.specs.Records.{room}
+use Rattle.table.proofs.Laws.{put-within, holds-first}
 use Rattle.cases.proofs.table_of.Statement.{statement}
 use Rattle.cases.proofs.table_of.Tie as tie
 

@@ -3,9 +3,9 @@ use mathlib.Core.Path.{sym, _∙_, ap}
 use Rattle.state.specs.declared.State.{State}
 use Rattle.refusals.specs.Given.{givenIs}
 use Rattle.run.specs.Run.{runOf}
-use Rattle.records.specs.declared.Table.{Table}
-use Rattle.records.specs.Records.{tableCycles, tableLines}
-use Rattle.records.proofs.Laws.{holds-first}
+use Rattle.table.specs.declared.Table.{Table}
+use Rattle.table.specs.Records.{tableCycles, tableLines}
+use Rattle.table.proofs.Laws.{holds-first}
 use Rattle.records.proofs.First.{same-run}
 use Rattle.run.proofs.Loop.{ends-same}
 use Rattle.packing.specs.Bytes.{stateOf, recordsOf}

@@ -3,7 +3,7 @@ use native.Mathlib.Omega.{arith}
 use mathlib.Core.Path.{_≡_}
 use borrow.Author.Needs.{needs}
 use lib.ListN.{length}
-use Rattle.records.specs.Records.{noRecords, gathered}
+use Rattle.table.specs.Records.{noRecords, gathered}
 use Rattle.packing.specs.Bytes.{packedSize, recordsFrom, recordsOf}
 use Rattle.packing.proofs.Laws.{from-start, one-more, no-more}
 use Rattle.packing.proofs.unpacked.Statement.{statement}

@@ -54,18 +54,18 @@ use Rattle.run.specs.End.{End, Ends}
 use Rattle.run.specs.Run.{runOf}
 use Rattle.run.proofs.Answer as D
 use Rattle.run.proofs.Answer.Laws as D′
-use Rattle.records.specs.Records.{cyclesOf, linesOf, room, tableCycles, tableLines, noRecords, gathered}
-use Rattle.records.specs.declared.Record.{Record}
-use Rattle.records.specs.declared.Table.{Table}
-use Rattle.records.proofs.Laws.{holds-first}
+use Rattle.table.specs.Records.{cyclesOf, linesOf, room, tableCycles, tableLines, noRecords, gathered}
+use Rattle.table.specs.declared.Record.{Record}
+use Rattle.table.specs.declared.Table.{Table}
+use Rattle.table.proofs.Laws.{holds-first}
 use Rattle.records.proofs.First.{same-run}
-use Rattle.records.proofs.Record as T
-use Rattle.records.proofs.Table as B
-use Rattle.records.proofs.Table.Laws as B′
-use Rattle.records.proofs.gather as g
-use Rattle.records.proofs.gather.Symbol as g-def
-use Rattle.records.proofs.gather.Symbol.{name as #records·gather}
-use Rattle.records.proofs.gather.Met as g-thm
+use Rattle.table.proofs.Record as T
+use Rattle.table.proofs.Table as B
+use Rattle.table.proofs.Table.Laws as B′
+use Rattle.table.proofs.gather as g
+use Rattle.table.proofs.gather.Symbol as g-def
+use Rattle.table.proofs.gather.Symbol.{name as #table·gather}
+use Rattle.table.proofs.gather.Met as g-thm
 use Rattle.records.proofs.run_table as h
 use Rattle.records.proofs.run_table.Symbol as h-def
 use Rattle.records.proofs.run_table.Symbol.{name as #records·run-table}
@@ -248,7 +248,7 @@ module _ {M : Type 1} (𝓤 : URA M) (H : Heap 𝓤) (A : Atoms 𝓤) (W : Given
         (subst (λ (z : End). Ends z r (ws .1 .0)) (same-run (s .state) ms (now y) budget)
         (subst (λ (z : Table). Told z r (ws .1 .0)) eq e)))))))))
 
-  module _ (C : Calls 𝓤 H) (Λ : Loops 𝓤 H) (fm : FmC 𝓤 H (W .laws) C) (known-g : Triple 𝓤 (C #records·gather) (Gather 𝓤 H A mem run))
+  module _ (C : Calls 𝓤 H) (Λ : Loops 𝓤 H) (fm : FmC 𝓤 H (W .laws) C) (known-g : Triple 𝓤 (C #table·gather) (Gather 𝓤 H A mem run))
       (known-h : Triple 𝓤 (C #records·run-table) (RunTable 𝓤 H A mem run)) where
     walk : Is (ShrSlice (named 1) κ₁ T.the-row) y (vr ∷ [])
         → ent 𝓤 (onEntry 𝓤 H A f.signature (κ₀, (κ₁, tt)) (q₀, (q₁, tt)) (s, (x, (y, (budget, tt)))) at)
@@ -278,7 +278,7 @@ module _ {M : Type 1} (𝓤 : URA M) (H : Heap 𝓤) (A : Atoms 𝓤) (W : Given
         gathering C Λ fm known-h l₀ l₁ l₂ l₃ l₄ l₅ l₆ l₇ t u is eq))))))))))))
 
 module _ {M : Type 1} (𝓤 : URA M) (H : Heap 𝓤) (A : Atoms 𝓤) (W : Given 𝓤 H A) (mem : Memory → SProp 𝓤) (run : Routine → Fun 𝓤) where
-  walks : (C : Calls 𝓤 H) (Λ : Loops 𝓤 H) → FmC 𝓤 H (W .laws) C → Triple 𝓤 (C #records·gather) (Gather 𝓤 H A mem run)
+  walks : (C : Calls 𝓤 H) (Λ : Loops 𝓤 H) → FmC 𝓤 H (W .laws) C → Triple 𝓤 (C #table·gather) (Gather 𝓤 H A mem run)
       → Triple 𝓤 (C #records·run-table) (RunTable 𝓤 H A mem run)
       → Walks 𝓤 H A f.ended stayed (WpFn 𝓤 H C Λ code.function) (f.clauses 𝓤 H A mem run)
   walks C Λ fm known-g known-h =
@@ -297,7 +297,7 @@ module _ {M : Type 1} (𝓤 : URA M) (H : Heap 𝓤) (A : Atoms 𝓤) (W : Given
       (are .0) (are .1 .0 .0 .1) (are .1 .1 .1 .0 .1) C Λ fm known-g known-h (are .1 .1 .0)))
 
 meets : {M : Type 1} (𝓤 : URA M) (H : Heap 𝓤) (A : Atoms 𝓤) (W : Given 𝓤 H A) (mem : Memory → SProp 𝓤) (run : Routine → Fun 𝓤)
-    (𝓣 : Tables 𝓤 H) → Triple 𝓤 (𝓣 .C #records·gather) (Gather 𝓤 H A mem run)
+    (𝓣 : Tables 𝓤 H) → Triple 𝓤 (𝓣 .C #table·gather) (Gather 𝓤 H A mem run)
     → Triple 𝓤 (𝓣 .C #records·run-table) (RunTable 𝓤 H A mem run)
     → Meets 𝓤 H A f.signature (WpFn 𝓤 H (𝓣 .C) (𝓣 .Λ) code.function) (f.spec 𝓤 H A mem run)
 meets 𝓤 H A W mem run 𝓣 known-g known-h =
@@ -321,6 +321,6 @@ run-spec 𝓤 H 𝓜 𝓖 𝓡 =
     (tables 𝓤 H 𝓜 𝓡 code.env .C) (tables 𝓤 H 𝓜 𝓡 code.env .Λ) #records·run code.function (code.unfolded 𝓤 H 𝓜 𝓡)
     (meets 𝓤 H (𝓖 .A) (givenOf 𝓤 H 𝓜 𝓖) (𝓜 .mem) (𝓡 .run) (tablesOf 𝓤 H 𝓜 (tables 𝓤 H 𝓜 𝓡 code.env))
     (cited 𝓤 H (Gather 𝓤 H (𝓖 .A) (𝓜 .mem) (𝓡 .run)) 𝓜 𝓡 code.env
-    #records·gather g-def.routine code.calls-records·gather (g-thm.met 𝓤 H 𝓜 𝓖 𝓡))
+    #table·gather g-def.routine code.calls-table·gather (g-thm.met 𝓤 H 𝓜 𝓖 𝓡))
     (cited 𝓤 H (RunTable 𝓤 H (𝓖 .A) (𝓜 .mem) (𝓡 .run)) 𝓜 𝓡 code.env
     #records·run-table h-def.routine code.calls-records·run-table (h-thm.met 𝓤 H 𝓜 𝓖 𝓡)))

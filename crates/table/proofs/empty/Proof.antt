@@ -1,7 +1,7 @@
 use mathlib.Core.Path.{refl}
-use Rattle.records.specs.Records.{noRecords}
-use Rattle.records.proofs.empty.Statement.{statement}
-use Rattle.records.proofs.empty.Tie as tie
+use Rattle.table.specs.Records.{noRecords}
+use Rattle.table.proofs.empty.Statement.{statement}
+use Rattle.table.proofs.empty.Tie as tie
 
 returns : tie.Need-returns
 unfolding noRecords

@@ -1,12 +1,12 @@
 -- A schedule as a list of records (document 01, "Requests"), and the table that its first records are put into.
-use Prim.Native.Nat.{ℕ, _+_}
+use Prim.Native.Nat.{ℕ, _+_, _<_}
 use mathlib.Core.List.{List, [], _∷_, map}
 use lib.Dec.{ltb}
 use lib.ListN.{set, take, replicate}
 use Rattle.word.specs.Word.{pick}
 use Rattle.machine.specs.Names.{recordLimit}
-use Rattle.records.specs.declared.Record.{Record}
-use Rattle.records.specs.declared.Table.{Table}
+use Rattle.table.specs.declared.Record.{Record}
+use Rattle.table.specs.declared.Table.{Table}
 
 abbrev pub recordIs : ℕ → ℕ → Record
 recordIs cycle line = record { cycle = cycle; line = line }
@@ -21,6 +21,10 @@ linesOf rs = map (λ (r : Record). r .line) rs
 -- the records that a table has room for: one more than a schedule may have
 abbrev pub room : ℕ
 room = recordLimit + 1
+
+-- so a table that is full has more records than a run accepts; proved under the same name in proofs/Laws.antt
+abbrev pub RoomForMore : Type 0
+RoomForMore = recordLimit < room
 
 -- the cycle numbers that a table holds, and the line bytes
 abbrev pub tableCycles : Table → List ℕ

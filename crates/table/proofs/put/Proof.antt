@@ -1,7 +1,7 @@
 use borrow.Author.Needs.{needs}
 use borrow.Author.Tests.{lt-ltb, le-ltb}
-use Rattle.records.proofs.put.Statement.{statement}
-use Rattle.records.proofs.put.Tie as tie
+use Rattle.table.proofs.put.Statement.{statement}
+use Rattle.table.proofs.put.Tie as tie
 
 pub put-spec : {M : Type 1} → statement M
 put-spec =

@@ -10,9 +10,9 @@ use lib.ListN.{length, getD, set, take, drop, drop-of-length-le, length-set, len
 use lib.Seq.{drop-cons, take-all, take-suc-set, take-append-le}
 use borrow.Author.Tests.{ltb-true, ltb-false}
 use Rattle.word.specs.Word.{pick}
-use Rattle.records.specs.declared.Record.{Record}
-use Rattle.records.specs.declared.Table.{Table}
-use Rattle.records.specs.Records.{recordIs, cyclesOf, linesOf, room, tableCycles, tableLines, noRecords, placed, withRecord, gathered}
+use Rattle.table.specs.declared.Record.{Record}
+use Rattle.table.specs.declared.Table.{Table}
+use Rattle.table.specs.Records.{recordIs, cyclesOf, linesOf, room, tableCycles, tableLines, noRecords, placed, withRecord, gathered, RoomForMore}
 
 -- what a read past the end of a list is taken to give
 abbrev pub none : Record
@@ -101,3 +101,6 @@ unfolding noRecords
 holds-first rs =
     let h = gathers noRecords rs (record { cycles-long = refl; lines-long = refl; within = omega arith }) in
     record { sound = h .sound; cycles-are = h .cycles-are; lines-are = h .lines-are }
+
+pub room-for-more : RoomForMore
+room-for-more = omega arith

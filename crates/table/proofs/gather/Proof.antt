@@ -1,4 +1,4 @@
--- `records::gather` meets its contract: a walk of its MIR, by hand, with a loop over a slice of structs. Each turn calls `put`, a covered
+-- `table::gather` meets its contract: a walk of its MIR, by hand, with a loop over a slice of structs. Each turn calls `put`, a covered
 -- function, on the table so far and on record i, both by value. Of the two callees the proof knows only that they meet their contracts,
 -- and of the table only that it is one: its machine value u stays unopened.
 --     State           where a turn begins: i, the table so far with its machine value, and what is known of them
@@ -55,27 +55,27 @@ use denote.Triple.Table.{entered, cited}
 use denote.Triple.Walked.{says, Stays, stay-none-slice, walkOf, goes-none-slice, Walks, ends-at, walked, walk-meets}
 use denote.Triple.Clauses.{ensured, lasts}
 use denote.Exit.{yes}
-use Rattle.records.specs.declared.Record.{Record}
-use Rattle.records.specs.declared.Table.{Table}
-use Rattle.records.specs.Records.{noRecords, withRecord, gathered}
-use Rattle.records.proofs.Laws.{none, one-put, all-put}
-use Rattle.records.proofs.Record as T
-use Rattle.records.proofs.Record.Laws as T′
-use Rattle.records.proofs.Table as B
-use Rattle.records.proofs.Table.Laws as B′
-use Rattle.records.proofs.empty as e
-use Rattle.records.proofs.empty.Symbol as e-def
-use Rattle.records.proofs.empty.Symbol.{name as #records·empty}
-use Rattle.records.proofs.empty.Met as e-thm
-use Rattle.records.proofs.put as g
-use Rattle.records.proofs.put.Symbol as g-def
-use Rattle.records.proofs.put.Symbol.{name as #records·put}
-use Rattle.records.proofs.put.Met as g-thm
-use Rattle.records.proofs.gather.Key.{name as #records·gather}
-use Rattle.records.proofs.gather as f
-use Rattle.records.proofs.gather.Statement as stated
-use Rattle.records.proofs.gather.Code as code
-use Rattle.records.proofs.gather.Code.Mir as M′
+use Rattle.table.specs.declared.Record.{Record}
+use Rattle.table.specs.declared.Table.{Table}
+use Rattle.table.specs.Records.{noRecords, withRecord, gathered}
+use Rattle.table.proofs.Laws.{none, one-put, all-put}
+use Rattle.table.proofs.Record as T
+use Rattle.table.proofs.Record.Laws as T′
+use Rattle.table.proofs.Table as B
+use Rattle.table.proofs.Table.Laws as B′
+use Rattle.table.proofs.empty as e
+use Rattle.table.proofs.empty.Symbol as e-def
+use Rattle.table.proofs.empty.Symbol.{name as #table·empty}
+use Rattle.table.proofs.empty.Met as e-thm
+use Rattle.table.proofs.put as g
+use Rattle.table.proofs.put.Symbol as g-def
+use Rattle.table.proofs.put.Symbol.{name as #table·put}
+use Rattle.table.proofs.put.Met as g-thm
+use Rattle.table.proofs.gather.Key.{name as #table·gather}
+use Rattle.table.proofs.gather as f
+use Rattle.table.proofs.gather.Statement as stated
+use Rattle.table.proofs.gather.Code as code
+use Rattle.table.proofs.gather.Code.Mir as M′
 
 abbrev stayed : Stays (f.ended .signature .params) (f.ended .kept)
 stayed = (stay-none-slice (0 ∷ []) tt (plain (λ _. T.the-row)) yes, tt)
@@ -196,7 +196,7 @@ module _ {M : Type 1} (𝓤 : URA M) (H : Heap 𝓤) (A : Atoms 𝓤) (W : Given
   abbrev next : (s : State) (r : Table) (u : Val) → s .0 < n → Is B.the-row r (u ∷ []) → r ≡ found s → State
   next s r u l is eq = (s .0 + 1, r, u, is, still s r l eq)
 
-  module _ (𝓣 : Tables 𝓤 H) (known-p : Triple 𝓤 (𝓣 .C #records·put) (Put 𝓤 H A mem run)) (q′ : Share)
+  module _ (𝓣 : Tables 𝓤 H) (known-p : Triple 𝓤 (𝓣 .C #table·put) (Put 𝓤 H A mem run)) (q′ : Share)
       (l₀ l₁ l₂ l₃ l₄ l₅ l₆ l₇ : ℕ) where
     abbrev C : Calls 𝓤 H
     C = 𝓣 .C
@@ -284,7 +284,7 @@ module _ {M : Type 1} (𝓤 : URA M) (H : Heap 𝓤) (A : Atoms 𝓤) (W : Given
     turns : (s : State) → Goes s
     turns s = choose (ltb (s .0) n) (λ eq. more s (ltb-true (s .0) n eq) eq) (λ eq. ends s (ltb-false (s .0) n eq) eq)
 
-  module _ (𝓣 : Tables 𝓤 H) (known-p : Triple 𝓤 (𝓣 .C #records·put) (Put 𝓤 H A mem run)) (l₀ l₁ l₂ l₃ l₄ l₅ l₆ l₇ : ℕ) where
+  module _ (𝓣 : Tables 𝓤 H) (known-p : Triple 𝓤 (𝓣 .C #table·put) (Put 𝓤 H A mem run)) (l₀ l₁ l₂ l₃ l₄ l₅ l₆ l₇ : ℕ) where
     abbrev Ev : Env 𝓤 H
     Ev =
         (B′.mir, l₀) ∷ (slice, l₁) ∷ (B′.mir, l₂) ∷ (tyInt w64, l₃) ∷ (tyInt w64, l₄) ∷ (tyBool, l₅) ∷ (tyPtr, l₆) ∷ (T′.mir, l₇) ∷ []
@@ -310,7 +310,7 @@ module _ {M : Type 1} (𝓤 : URA M) (H : Heap 𝓤) (A : Atoms 𝓤) (W : Given
         (_, r, u, is, ap (λ (t : Table). gathered t ys) eq))
 
   -- the MIR, up to the call of `empty`
-  walk : (𝓣 : Tables 𝓤 H) → Triple 𝓤 (𝓣 .C #records·empty) (Empty 𝓤 H A mem run) → Triple 𝓤 (𝓣 .C #records·put) (Put 𝓤 H A mem run)
+  walk : (𝓣 : Tables 𝓤 H) → Triple 𝓤 (𝓣 .C #table·empty) (Empty 𝓤 H A mem run) → Triple 𝓤 (𝓣 .C #table·put) (Put 𝓤 H A mem run)
       → ent 𝓤 (onEntry 𝓤 H A f.signature (κ, tt) (q, tt) (x, tt) at) (WpFn 𝓤 H (𝓣 .C) (𝓣 .Λ) code.function (mach ∷ []) Post)
   walk 𝓣 known-e known-p =
       qed W ((‵ (flft κ q) ⊛ ‵ ftrue) ∷ ‵ (owns (ShrSlice (named 0) κ T.the-row ∷ []) (x, tt) at) ∷ []) ∵
@@ -327,7 +327,7 @@ module _ {M : Type 1} (𝓤 : URA M) (H : Heap 𝓤) (A : Atoms 𝓤) (W : Given
       starts 𝓣 known-p l₀ l₁ l₂ l₃ l₄ l₅ l₆ l₇ r u is eq))))))))))))
 
 module _ {M : Type 1} (𝓤 : URA M) (H : Heap 𝓤) (A : Atoms 𝓤) (W : Given 𝓤 H A) (mem : Memory → SProp 𝓤) (run : Routine → Fun 𝓤) where
-  walks : (𝓣 : Tables 𝓤 H) → Triple 𝓤 (𝓣 .C #records·empty) (Empty 𝓤 H A mem run) → Triple 𝓤 (𝓣 .C #records·put) (Put 𝓤 H A mem run)
+  walks : (𝓣 : Tables 𝓤 H) → Triple 𝓤 (𝓣 .C #table·empty) (Empty 𝓤 H A mem run) → Triple 𝓤 (𝓣 .C #table·put) (Put 𝓤 H A mem run)
       → Walks 𝓤 H A f.ended stayed (WpFn 𝓤 H (𝓣 .C) (𝓣 .Λ) code.function) (f.clauses 𝓤 H A mem run)
   walks 𝓣 known-e known-p =
       walked 𝓤 H A f.ended stayed (f.clauses 𝓤 H A mem run) (WpFn 𝓤 H (𝓣 .C) (𝓣 .Λ) code.function)
@@ -336,7 +336,7 @@ module _ {M : Type 1} (𝓤 : URA M) (H : Heap 𝓤) (A : Atoms 𝓤) (W : Given
       (walk 𝓤 H A W mem run (κs .0) (qs .0) (a .0 .ptr .0) (a .0 .ptr .1) (a .0 .name) (a .0 .now) (are .0 .0 .1) 𝓣 known-e known-p))
 
 meets : {M : Type 1} (𝓤 : URA M) (H : Heap 𝓤) (A : Atoms 𝓤) → Given 𝓤 H A → (mem : Memory → SProp 𝓤) (run : Routine → Fun 𝓤)
-    (𝓣 : Tables 𝓤 H) → Triple 𝓤 (𝓣 .C #records·empty) (Empty 𝓤 H A mem run) → Triple 𝓤 (𝓣 .C #records·put) (Put 𝓤 H A mem run)
+    (𝓣 : Tables 𝓤 H) → Triple 𝓤 (𝓣 .C #table·empty) (Empty 𝓤 H A mem run) → Triple 𝓤 (𝓣 .C #table·put) (Put 𝓤 H A mem run)
     → Meets 𝓤 H A f.signature (WpFn 𝓤 H (𝓣 .C) (𝓣 .Λ) code.function) (f.spec 𝓤 H A mem run)
 meets 𝓤 H A W mem run 𝓣 known-e known-p =
     walk-meets 𝓤 H A f.ended stayed W (goes-none-slice 𝓤 H A W 1 (0 ∷ []) tt (plain (λ _. T.the-row)) yes, tt) (f.clauses 𝓤 H A mem run)
@@ -346,9 +346,9 @@ pub gather-spec : {M : Type 1} → stated.statement M
 unfolding code.routine tablesOf
 gather-spec 𝓤 H 𝓜 𝓖 𝓡 =
     entered 𝓤 H (tripleOf 𝓤 H (𝓖 .A) f.signature (f.spec 𝓤 H (𝓖 .A) (𝓜 .mem) (𝓡 .run)))
-    (tables 𝓤 H 𝓜 𝓡 code.env .C) (tables 𝓤 H 𝓜 𝓡 code.env .Λ) #records·gather code.function (code.unfolded 𝓤 H 𝓜 𝓡)
+    (tables 𝓤 H 𝓜 𝓡 code.env .C) (tables 𝓤 H 𝓜 𝓡 code.env .Λ) #table·gather code.function (code.unfolded 𝓤 H 𝓜 𝓡)
     (meets 𝓤 H (𝓖 .A) (givenOf 𝓤 H 𝓜 𝓖) (𝓜 .mem) (𝓡 .run) (tablesOf 𝓤 H 𝓜 (tables 𝓤 H 𝓜 𝓡 code.env))
     (cited 𝓤 H (Empty 𝓤 H (𝓖 .A) (𝓜 .mem) (𝓡 .run)) 𝓜 𝓡 code.env
-    #records·empty e-def.routine code.calls-records·empty (e-thm.met 𝓤 H 𝓜 𝓖 𝓡))
+    #table·empty e-def.routine code.calls-table·empty (e-thm.met 𝓤 H 𝓜 𝓖 𝓡))
     (cited 𝓤 H (Put 𝓤 H (𝓖 .A) (𝓜 .mem) (𝓡 .run)) 𝓜 𝓡 code.env
-    #records·put g-def.routine code.calls-records·put (g-thm.met 𝓤 H 𝓜 𝓖 𝓡)))
+    #table·put g-def.routine code.calls-table·put (g-thm.met 𝓤 H 𝓜 𝓖 𝓡)))
