@@ -10,7 +10,7 @@ use Rattle.run.specs.Step.{stepOf}
 use Rattle.run.specs.Run.{runOf}
 use Rattle.packing.proofs.Again.{bytes-again}
 use Rattle.lent.specs.Lent.{recordRefusal, lentRefusal}
-use Rattle.guide.specs.Doors.{Left, unless}
+use Rattle.guide.specs.Doors.{Left, leftIs, unless}
 use Rattle.guide.specs.Again.{RecordAgain, AsLent, RefusedStepKeeps, RefusedRunKeeps}
 use Rattle.lent.proofs.Laws.{none-first, accepted}
 
@@ -22,7 +22,7 @@ door-keeps : (n : ℕ) (r m : List ℕ) (l : Left) → (n ≡ 0 → AsLent l r m
 unfolding unless
 door-keeps n r m l done = go (eqb n 0) refl
   where
-    go : (t : Bool) → eqb n 0 ≡ t → AsLent (pick t l (record { reply = n; state = r; memory = m })) r m
+    go : (t : Bool) → eqb n 0 ≡ t → AsLent (pick t l (leftIs n r m)) r m
     go true same = done (eqb-true _ _ same)
     go false other = (refl, refl)
 

@@ -1,13 +1,13 @@
 -- The place that a postbyte names, by its bits and by its form. On the definitions alone. Assumes nothing.
 use Prim.Native.Nat.{ℕ, _/_, _%_}
-use mathlib.Core.Path.{_≡_, refl}
+use mathlib.Core.Path.{_≡_, refl, sym, _∙_, ap}
 use mathlib.Core.Bool.{Bool, true, false, not, _&&_}
 use lib.Dec.{eqb}
 use Rattle.word.specs.Word.{pick, bitOf}
 use Rattle.memory.specs.Memory.{byteAt}
 use Rattle.opcodes.specs.Postbyte.{formOf, IDX, IDX1, IDX2, [D:IDX], [IDX2]}
 use Rattle.operand.specs.declared.Place.{Place}
-use Rattle.operand.specs.Indexed.{fivePlace, steppedPlace, nineBits, sixteenBits, throughSixteen, throughD, plainAccumulator, constantPlace, accumulatorPlace, indexedPlace, placeIn, ByItsForm}
+use Rattle.operand.specs.Indexed.{fivePlace, steppedPlace, nineBits, sixteenBits, throughSixteen, throughD, plainAccumulator, constantPlace, accumulatorPlace, indexedPlace, placeIn, ByItsForm, PlainByItsForm}
 
 -- the two choices, each for any truth of the bits that they look at
 agree :
@@ -33,3 +33,7 @@ by-its-form s m at pc =
     let p = byteAt m at in
     agree (bitOf 5 p) (eqb (p / 64) 3) (bitOf 2 p) (bitOf 1 p) (bitOf 0 p) (eqb (p % 4) 3) (fivePlace s pc p) (steppedPlace s p)
     (plainAccumulator s pc p) (throughD s m pc p) (nineBits s m at pc p) (sixteenBits s m at pc p) (throughSixteen s m at pc p)
+
+pub plain-by-its-form : PlainByItsForm
+unfolding placeIn
+plain-by-its-form s m at pc is = ap (λ form. placeIn form s m at pc (byteAt m at)) (sym is) ∙ by-its-form s m at pc

@@ -70,7 +70,7 @@ unfoldable pub accumulatorPlace : State → List ℕ → ℕ → ℕ → Place
 accumulatorPlace s m pc p = pick (eqb (p % 4) 3) (throughD s m pc p) (plainAccumulator s pc p)
 
 -- The place that the postbyte at an address names, with the bytes after it. `pc` is what PC stands for as a base: the address
--- after the whole instruction, and in a move that address as table 3-3 corrects it.
+-- after the whole instruction.
 unfoldable pub indexedPlace : State → List ℕ → ℕ → ℕ → Place
 indexedPlace s m at pc =
     let p = byteAt m at in
@@ -104,3 +104,10 @@ abbrev pub ByItsForm : Type 0
 ByItsForm =
     (s : State) (m : List ℕ) (at pc : ℕ) →
     placeIn (formOf (byteAt m at)) s m at pc (byteAt m at) ≡ indexedPlace s m at pc
+
+-- and so a postbyte of the form IDX names a plain place
+abbrev pub PlainByItsForm : Type 0
+PlainByItsForm =
+    (s : State) (m : List ℕ) (at pc : ℕ) →
+    formOf (byteAt m at) ≡ IDX →
+    plainPlace s pc (byteAt m at) ≡ indexedPlace s m at pc

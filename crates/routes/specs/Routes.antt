@@ -22,7 +22,8 @@ dataSize wide = pick wide 2 1
 -- The moves, by the codings on the pages of MOVB and MOVW. PC as a base is corrected by table 3-3 (002, p. 3-11).
 
 -- The place that a postbyte of a move names. A move has the form IDX alone: a postbyte of another form is reserved there, and then nothing
--- is fetched (document 01, "Reserved"; that the table says so is `moved` in crates/opcodes/specs/Rules.antt).
+-- is fetched (document 01, "Reserved"; that the table says so is `moved` in crates/opcodes/specs/Rules.antt, and that this is then the
+-- place that the bits name is `PlainByItsForm` in crates/operand/specs/Indexed.antt).
 unfoldable pub movePlace : State → List ℕ → ℕ → ℕ → Place
 movePlace s m at pc = plainPlace s pc (byteAt m at)
 
