@@ -1,54 +1,16 @@
--- Additions, subtractions, logic, counting and comparing, at 8 and at 16 bits, from the glossary of source document 002
--- (section 6.6; its pages bear no number in the scan, so each is cited by its instruction). k is the number of the top bit,
--- 7 or 15, so that one definition serves both widths. The letters are the manual's: X the register, M the operand, R the result.
+-- Additions, subtractions, counting and comparing, at 8 and at 16 bits, from the glossary of source document 002 (section 6.6; its
+-- pages bear no number in the scan, so each is cited by its instruction). k is the number of the top bit, 7 or 15, so that one
+-- definition serves both widths. The letters are the manual's: X the register, M the operand, R the result.
 use Prim.Native.Nat.{ℕ, suc, _+_, _-_, _%_, _^_, min, max}
 use mathlib.Core.Path.{_≡_}
 use mathlib.Core.Bool.{Bool, true, false, _&&_, _||_, not}
 use lib.Dec.{eqb}
-use lib.Bits.{bitAnd, bitOr, bitXor}
 use Rattle.word.specs.Word.{bitOf}
 use Rattle.state.specs.declared.Flags.{Flags}
-use Rattle.state.specs.Ccr.{setH, setN, setZ, setV, setC, weightOf, ccrOf, flagsOf}
-use Rattle.alu.specs.declared.Byte.{Byte}
-use Rattle.alu.specs.declared.Word.{Word}
-
--- a result of 8 bits, with the codes that it gives
-abbrev pub byteOf : ℕ → (ℕ → Flags) → Byte
-byteOf r codes = record { value = r; flags = codes r }
-
--- a result of 16 bits, with the codes that it gives
-abbrev pub wideOf : ℕ → (ℕ → Flags) → Word
-wideOf r codes = record { value = r; flags = codes r }
-
--- the codes N, Z and V; C and the others stay
-abbrev pub setNZV : Flags → Bool → Bool → Bool → Flags
-setNZV f n z v = setV (setZ (setN f n) z) v
-
--- the codes N, Z, V and C; the others stay
-abbrev pub setNZVC : Flags → Bool → Bool → Bool → Bool → Flags
-setNZVC f n z v c = setC (setNZV f n z v) c
-
--- The Boolean formulas.
-
--- a carry from bit k, on the page of ADCA: Xk · Mk + Mk · R̄k + R̄k · Xk
-abbrev pub carried : ℕ → ℕ → ℕ → ℕ → Bool
-carried k x m r = bitOf k x && bitOf k m || bitOf k m && not (bitOf k r) || not (bitOf k r) && bitOf k x
-
--- V of an addition, on the page of ADCA: Xk · Mk · R̄k + X̄k · M̄k · Rk
-abbrev pub sumOverflow : ℕ → ℕ → ℕ → ℕ → Bool
-sumOverflow k x m r = bitOf k x && bitOf k m && not (bitOf k r) || not (bitOf k x) && not (bitOf k m) && bitOf k r
-
--- a borrow by bit k, on the page of SUBA: X̄k · Mk + Mk · Rk + Rk · X̄k
-abbrev pub borrowed : ℕ → ℕ → ℕ → ℕ → Bool
-borrowed k x m r = not (bitOf k x) && bitOf k m || bitOf k m && bitOf k r || bitOf k r && not (bitOf k x)
-
--- V of a subtraction, on the page of SUBA: Xk · M̄k · R̄k + X̄k · Mk · Rk
-abbrev pub differenceOverflow : ℕ → ℕ → ℕ → ℕ → Bool
-differenceOverflow k x m r = bitOf k x && not (bitOf k m) && not (bitOf k r) || not (bitOf k x) && bitOf k m && bitOf k r
-
--- A ⊕ B = [A · B̄] + [Ā · B], as on the page of ASL
-abbrev pub exclusiveOr : Bool → Bool → Bool
-exclusiveOr a b = a && not b || not a && b
+use Rattle.state.specs.Ccr.{setH, setZ, weightOf, ccrOf, flagsOf}
+use Rattle.results.specs.declared.Byte.{Byte}
+use Rattle.results.specs.declared.Word.{Word}
+use Rattle.results.specs.Results.{byteOf, wideOf, setNZV, setNZVC, carried, sumOverflow, borrowed, differenceOverflow}
 
 -- The results, modulo 2 to the width.
 
@@ -70,10 +32,6 @@ oneLess k x = (x + 2 ^ suc k - 1) % 2 ^ suc k
 
 -- The codes of each kind of operation.
 
--- N: the MSB of the result is set. Z: the result is zero. V: 0. Pages of LDAA, STAA, ANDA, BITA, BSET, TAB, LDD and their sisters
-abbrev pub resultCodes : ℕ → Flags → ℕ → Flags
-resultCodes k f r = setNZV f (bitOf k r) (eqb r 0) false
-
 -- pages of ABA, ADCA, ADDA, ADDD, without H
 abbrev pub sumCodes : ℕ → Flags → ℕ → ℕ → ℕ → Flags
 sumCodes k f x m r = setNZVC f (bitOf k r) (eqb r 0) (sumOverflow k x m r) (carried k x m r)
@@ -91,46 +49,6 @@ addByte f x m c = byteOf (sumOf 7 x m c) (λ r. setH (sumCodes 7 f x m r) (carri
 -- SBA, CBA, SUBA, SUBB, CMPA, CMPB (C taken as 0), SBCA, SBCB
 abbrev pub subByte : Flags → ℕ → ℕ → Bool → Byte
 subByte f x m c = byteOf (differenceOf 7 x m c) (differenceCodes 7 f x m)
-
--- ANDA, ANDB, BITA, BITB
-abbrev pub andByte : Flags → ℕ → ℕ → Byte
-andByte f x m = byteOf (bitAnd x m) (resultCodes 7 f)
-
--- ORAA, ORAB, BSET
-abbrev pub orByte : Flags → ℕ → ℕ → Byte
-orByte f x m = byteOf (bitOr x m) (resultCodes 7 f)
-
--- EORA, EORB
-abbrev pub eorByte : Flags → ℕ → ℕ → Byte
-eorByte f x m = byteOf (bitXor x m) (resultCodes 7 f)
-
--- $FF - (M), each bit the other way
-abbrev pub complement : ℕ → ℕ
-complement m = 255 - m
-
--- BCLR: (M) and the complement of the mask
-abbrev pub bclrByte : Flags → ℕ → ℕ → Byte
-bclrByte f m mask = byteOf (bitAnd m (complement mask)) (resultCodes 7 f)
-
--- BRCLR: (M) · (Mask) = 0
-abbrev pub allClear : ℕ → ℕ → Bool
-allClear m mask = eqb (bitAnd m mask) 0
-
--- BRSET: the complement of (M), and (Mask), = 0
-abbrev pub allSet : ℕ → ℕ → Bool
-allSet m mask = eqb (bitAnd (complement m) mask) 0
-
--- TST, TSTA, TSTB: (M) - $00; V: 0, C: 0
-abbrev pub tstByte : Flags → ℕ → Byte
-tstByte f m = byteOf m (λ r. setNZVC f (bitOf 7 r) (eqb r 0) false false)
-
--- CLR, CLRA, CLRB: N: 0, Z: 1, V: 0, C: 0
-abbrev pub clrByte : Flags → Byte
-clrByte f = byteOf 0 (λ r. setNZVC f false true false false)
-
--- COM, COMA, COMB: V: 0, C: 1
-abbrev pub comByte : Flags → ℕ → Byte
-comByte f m = byteOf (complement m) (λ r. setNZVC f (bitOf 7 r) (eqb r 0) false true)
 
 -- V of NEG: R7 · R̄6 · R̄5 · R̄4 · R̄3 · R̄2 · R̄1 · R̄0
 abbrev pub negOverflow : ℕ → Bool

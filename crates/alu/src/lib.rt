@@ -1,34 +1,17 @@
-// Additions, subtractions, logic, counting and comparing, at 8 and at 16 bits: each is a function from the codes before and
-// the operands to the result and the codes after. No memory, no opcode and no address here.
+// Additions, subtractions, counting and comparing, at 8 and at 16 bits: each is a function from the codes before and the operands
+// to the result and the codes after. No memory, no opcode and no address here.
+use results::Byte;
+use results::Word;
+use results::difference_overflow;
+use results::nzvc;
+use results::sum_overflow;
+use results::top_8;
+use results::top_16;
 use state::Flags;
 ghost use mathlib.Core.Path.{_≡_};
-ghost use mathlib.Core.Bool.{_&&_, _||_, not};
 ghost use Prim.Native.Nat.{_+_, _-_, _%_, _≤_};
-ghost use Rattle.word.specs.Word.{bitOf};
 ghost use Rattle.state.specs.Ccr.{weightOf};
-ghost use Rattle.alu.specs.Alu.{setNZV, setNZVC, sumCodes, differenceCodes, resultCodes, addByte, subByte, andByte, orByte, eorByte, bclrByte, allClear, allSet, tstByte, clrByte, comByte, negByte, incByte, decByte, maxByte, minByte, addWord, subWord, inxWord, dexWord, maxWord, minWord};
-
-pub struct Byte {
-    pub value: u8,
-    pub flags: Flags,
-}
-
-pub struct Word {
-    pub value: u16,
-    pub flags: Flags,
-}
-
-fn nzv(f: Flags, n: bool, z: bool, v: bool) -> Flags
-    ensures { λ r. ⌜ r ≡ setNZV f n z v ⌝ }
-{
-    f.with_n(n).with_z(z).with_v(v)
-}
-
-pub fn nzvc(f: Flags, n: bool, z: bool, v: bool, c: bool) -> Flags
-    ensures { λ r. ⌜ r ≡ setNZVC f n z v c ⌝ }
-{
-    nzv(f, n, z, v).with_c(c)
-}
+ghost use Rattle.alu.specs.Alu.{addByte, subByte, negByte, incByte, decByte, maxByte, minByte, addWord, subWord, inxWord, dexWord, maxWord, minWord};
 
 // The carry as a number.
 fn one(carry: bool) -> u16
@@ -37,51 +20,11 @@ fn one(carry: bool) -> u16
     if carry { 1 } else { 0 }
 }
 
-pub fn top_8(m: u8) -> bool
-    ensures { λ r. ⌜ r ≡ bitOf 7 m ⌝ }
-{
-    m >= 128
-}
-
-pub fn top_16(m: u16) -> bool
-    ensures { λ r. ⌜ r ≡ bitOf 15 m ⌝ }
-{
-    m >= 32768
-}
-
 // A difference that comes round from $00 to $FF.
 pub fn minus_8(a: u8, b: u8) -> u8
     ensures { λ r. ⌜ r ≡ (a + 256 - b) % 256 ⌝ }
 {
     std::num::wrapping_sub_u8(a, b)
-}
-
-// V of a sum, from the top bits of the two numbers and of the result.
-pub fn sum_overflow(x: bool, m: bool, r: bool) -> bool
-    ensures { λ v. ⌜ v ≡ (x && m && not r || not x && not m && r) ⌝ }
-{
-    x & m & !r | !x & !m & r
-}
-
-// V of a difference, likewise.
-fn difference_overflow(x: bool, m: bool, r: bool) -> bool
-    ensures { λ v. ⌜ v ≡ (x && not m && not r || not x && m && r) ⌝ }
-{
-    x & !m & !r | !x & m & r
-}
-
-// LDAA, LDAB, STAA, STAB, TAB, TBA: the codes of a value that is moved.
-pub fn result_8(f: Flags, r: u8) -> Flags
-    ensures { λ g. ⌜ g ≡ resultCodes 7 f r ⌝ }
-{
-    nzv(f, top_8(r), r == 0, false)
-}
-
-// LDD, LDX, LDY, LDS, STD, STX, STY, STS.
-pub fn result_16(f: Flags, r: u16) -> Flags
-    ensures { λ g. ⌜ g ≡ resultCodes 15 f r ⌝ }
-{
-    nzv(f, top_16(r), r == 0, false)
 }
 
 // ADDA, ADDB, ADCA, ADCB, ABA.
@@ -110,93 +53,6 @@ pub fn sub_8(f: Flags, x: u8, m: u8, carry: bool) -> Byte
     let n = top_8(r);
     let v = difference_overflow(top_8(x), top_8(m), n);
     let flags = nzvc(f, n, r == 0, v, (x as u16) < less);
-    Byte {
-        value: r,
-        flags: flags,
-    }
-}
-
-// ANDA, ANDB; BITA, BITB by the codes alone.
-pub fn and_8(f: Flags, x: u8, m: u8) -> Byte
-    ensures { λ r. ⌜ r ≡ andByte f x m ⌝ }
-{
-    let r = x & m;
-    let flags = result_8(f, r);
-    Byte {
-        value: r,
-        flags: flags,
-    }
-}
-
-// ORAA, ORAB, BSET.
-pub fn or_8(f: Flags, x: u8, m: u8) -> Byte
-    ensures { λ r. ⌜ r ≡ orByte f x m ⌝ }
-{
-    let r = x | m;
-    let flags = result_8(f, r);
-    Byte {
-        value: r,
-        flags: flags,
-    }
-}
-
-// EORA, EORB.
-pub fn eor_8(f: Flags, x: u8, m: u8) -> Byte
-    ensures { λ r. ⌜ r ≡ eorByte f x m ⌝ }
-{
-    let r = x ^ m;
-    let flags = result_8(f, r);
-    Byte {
-        value: r,
-        flags: flags,
-    }
-}
-
-pub fn bclr(f: Flags, m: u8, mask: u8) -> Byte
-    ensures { λ r. ⌜ r ≡ bclrByte f m mask ⌝ }
-{
-    and_8(f, m, 255 - mask)
-}
-
-// BRCLR branches where this holds.
-pub fn bits_clear(m: u8, mask: u8) -> bool
-    ensures { λ r. ⌜ r ≡ allClear m mask ⌝ }
-{
-    m & mask == 0
-}
-
-// BRSET branches where this holds.
-pub fn bits_set(m: u8, mask: u8) -> bool
-    ensures { λ r. ⌜ r ≡ allSet m mask ⌝ }
-{
-    (255 - m) & mask == 0
-}
-
-pub fn tst(f: Flags, m: u8) -> Byte
-    ensures { λ r. ⌜ r ≡ tstByte f m ⌝ }
-{
-    let flags = nzvc(f, top_8(m), m == 0, false, false);
-    Byte {
-        value: m,
-        flags: flags,
-    }
-}
-
-pub fn clr(f: Flags) -> Byte
-    ensures { λ r. ⌜ r ≡ clrByte f ⌝ }
-{
-    let flags = nzvc(f, false, true, false, false);
-    Byte {
-        value: 0,
-        flags: flags,
-    }
-}
-
-pub fn com(f: Flags, m: u8) -> Byte
-    ensures { λ r. ⌜ r ≡ comByte f m ⌝ }
-{
-    let r = 255 - m;
-    let flags = nzvc(f, top_8(r), r == 0, false, true);
     Byte {
         value: r,
         flags: flags,

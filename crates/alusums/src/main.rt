@@ -1,6 +1,6 @@
 // Runs every 8-bit operation over all its operands and both carries, and prints a checksum for each: a second emulator
 // that computes the same sums agrees with the proved functions at every operand.
-use alu::Byte;
+use results::Byte;
 use state::Flags;
 
 // A byte more of the sum.
@@ -34,17 +34,17 @@ fn binary(op: u8, f: Flags, x: u8, m: u8) -> Byte {
         1 => alu::add_8(f, x, m, f.c),
         2 => alu::sub_8(f, x, m, false),
         3 => alu::sub_8(f, x, m, f.c),
-        4 => alu::and_8(f, x, m),
-        5 => alu::or_8(f, x, m),
-        6 => alu::eor_8(f, x, m),
-        7 => valued(x, alu::and_8(f, x, m).flags),
+        4 => logic::and_8(f, x, m),
+        5 => logic::or_8(f, x, m),
+        6 => logic::eor_8(f, x, m),
+        7 => valued(x, logic::and_8(f, x, m).flags),
         8 => valued(x, alu::sub_8(f, x, m, false).flags),
-        9 => alu::or_8(f, x, m),
-        10 => alu::bclr(f, x, m),
+        9 => logic::or_8(f, x, m),
+        10 => logic::bclr(f, x, m),
         11 => alu::max_8(f, x, m),
         12 => alu::min_8(f, x, m),
-        13 => tested(alu::bits_set(x, m), f),
-        _ => tested(alu::bits_clear(x, m), f),
+        13 => tested(logic::bits_set(x, m), f),
+        _ => tested(logic::bits_clear(x, m), f),
     }
 }
 
@@ -79,8 +79,8 @@ fn over_x(start: u32, op: u8, f: Flags) -> u32 {
 // The operations of one operand, in the order of their lines.
 fn unary(op: u8, f: Flags, x: u8) -> Byte {
     match op {
-        0 => alu::clr(f),
-        1 => alu::com(f, x),
+        0 => logic::clr(f),
+        1 => logic::com(f, x),
         2 => alu::neg(f, x),
         3 => alu::inc(f, x),
         4 => alu::dec(f, x),
@@ -89,8 +89,8 @@ fn unary(op: u8, f: Flags, x: u8) -> Byte {
         7 => shift::asr(f, x),
         8 => shift::rol(f, x),
         9 => shift::ror(f, x),
-        10 => alu::tst(f, x),
-        11 => valued(x, alu::result_8(f, x)),
+        10 => logic::tst(f, x),
+        11 => valued(x, results::result_8(f, x)),
         _ => decimal::daa(f, x),
     }
 }

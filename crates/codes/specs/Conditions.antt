@@ -7,7 +7,7 @@ use mathlib.Core.List.{List, [], _∷_}
 use lib.Bits.{bitAnd, bitOr}
 use lib.ListN.{getD}
 use Rattle.state.specs.declared.Flags.{Flags}
-use Rattle.alu.specs.Alu.{exclusiveOr}
+use Rattle.results.specs.Results.{exclusiveOr}
 use Rattle.state.specs.Ccr.{ccrOf, flagsOf, takeCcr}
 
 -- ANDCC: (CCR) · (Mask)

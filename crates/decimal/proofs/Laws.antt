@@ -3,12 +3,11 @@ use Prim.Native.Nat.{ℕ, _+_, _-_, _*_, _/_, _%_, _<_, _≤_, max}
 use native.Mathlib.Nat.{add-div-left, div-le-of-le-mul, mul-le-mul-left, mul-le-mul-right, le-max-left, le-max-right, le-of-lt}
 use native.Mathlib.Omega.{arith}
 use mathlib.Core.Path.{_≡_, refl, sym, _∙_}
-use mathlib.Core.Bool.{Bool, true, false, _&&_, _||_, not, Bool·beq}
+use mathlib.Core.Bool.{Bool, true, false, _&&_, _||_, not}
 use lib.Dec.{T, leb, eqb, eqb→eq}
 use Rattle.word.specs.Word.{pick}
-use Rattle.word.proofs.Table.{everyBelow, at-number}
+use Rattle.word.proofs.Table.{same, same-is, everyBelow, at-number}
 use Rattle.state.specs.Ccr.{weightOf}
-use Rattle.alu.proofs.Laws.{beq-true}
 use Rattle.decimal.specs.Decimal.{table, factorOf, correctedOf}
 use Rattle.decimal.specs.Lookup.{lookupOf, Rising, Falling}
 
@@ -33,7 +32,7 @@ abbrev factorRight : Bool → Bool → ℕ → Bool
 factorRight c h a = eqb (factor c h a) (factorOf table c h a)
 
 abbrev correctedRight : Bool → Bool → ℕ → Bool
-correctedRight c h a = Bool·beq (corrected c h a) (correctedOf table c h a)
+correctedRight c h a = same (corrected c h a) (correctedOf table c h a)
 
 -- a test that passes at both values of C, both of H and every byte
 everywhere :
@@ -54,7 +53,7 @@ pub factor-is : (c h : Bool) (a : ℕ) → a < 256 → factor c h a ≡ factorOf
 factor-is c h a l = eqb→eq _ _ (everywhere factorRight tt tt tt tt c h a l)
 
 pub corrected-is : (c h : Bool) (a : ℕ) → a < 256 → corrected c h a ≡ correctedOf table c h a
-corrected-is c h a l = beq-true _ _ (everywhere correctedRight tt tt tt tt c h a l)
+corrected-is c h a l = same-is _ _ (everywhere correctedRight tt tt tt tt c h a l)
 
 -- the two parts of a lookup, before the cut: what is left of Y1, and what Y2 adds
 parts : (b d y1 y2 : ℕ) → d + b ≡ 256 → y1 * 256 + b * y2 - b * y1 ≡ d * y1 + b * y2

@@ -5,8 +5,8 @@ use mathlib.Core.List.{List, [], _∷_}
 use lib.Dec.{leb, eqb}
 use Rattle.word.specs.Word.{bitOf, pick}
 use Rattle.state.specs.declared.Flags.{Flags}
-use Rattle.alu.specs.declared.Byte.{Byte}
-use Rattle.alu.specs.Alu.{byteOf, setNZVC}
+use Rattle.results.specs.declared.Byte.{Byte}
+use Rattle.results.specs.Results.{byteOf, setNZVC}
 
 -- Initial C Bit Value, Value of A[7:4] from and to, Initial H Bit Value, Value of A[3:0] from and to, Correction Factor,
 -- Corrected C Bit Value

@@ -6,9 +6,9 @@ use lib.Dec.{eqb}
 use Rattle.word.specs.Word.{bitOf}
 use Rattle.state.specs.declared.Flags.{Flags}
 use Rattle.state.specs.Ccr.{setN, setZ}
-use Rattle.alu.specs.declared.Byte.{Byte}
-use Rattle.alu.specs.declared.Word.{Word}
-use Rattle.alu.specs.Alu.{byteOf, wideOf}
+use Rattle.results.specs.declared.Byte.{Byte}
+use Rattle.results.specs.declared.Word.{Word}
+use Rattle.results.specs.Results.{byteOf, wideOf}
 
 -- Y1 + [(B) × (Y2 - Y1)], where B is a fraction of 256: the whole is taken 256 times, so that it is exact, and then the radix
 -- point between bits 7 and 8 cuts it, which rounds down

@@ -1,6 +1,6 @@
 // The decimal adjustment after an addition, and the two table lookups.
-use alu::Byte;
-use alu::Word;
+use results::Byte;
+use results::Word;
 use state::Flags;
 ghost use mathlib.Core.Path.{_≡_};
 ghost use Prim.Native.Nat.{_≤_, max};
@@ -37,7 +37,7 @@ pub fn daa(f: Flags, a: u8) -> Byte
     let high_due = listed & (c | (high >= 10) | (high >= 9) & (low >= 10));
     let factor = part(low_due, 6) + part(high_due, 96);
     let r = std::num::wrapping_add_u8(a, factor);
-    let flags = alu::nzvc(f, alu::top_8(r), r == 0, v, c | high_due);
+    let flags = results::nzvc(f, results::top_8(r), r == 0, v, c | high_due);
     Byte {
         value: r,
         flags: flags,
@@ -56,7 +56,7 @@ pub fn tbl(f: Flags, b: u8, y1: u8, y2: u8) -> Byte
     ensures { λ r. ⌜ r ≡ tblByte f b y1 y2 ⌝ }
 {
     let r = between(b, y1 as u16, y2 as u16) as u8;
-    let flags = f.with_n(alu::top_8(r)).with_z(r == 0);
+    let flags = f.with_n(results::top_8(r)).with_z(r == 0);
     Byte {
         value: r,
         flags: flags,
@@ -67,7 +67,7 @@ pub fn etbl(f: Flags, b: u8, y1: u16, y2: u16) -> Word
     ensures { λ r. ⌜ r ≡ etblWord f b y1 y2 ⌝ }
 {
     let r = between(b, y1, y2);
-    let flags = f.with_n(alu::top_16(r)).with_z(r == 0);
+    let flags = f.with_n(results::top_16(r)).with_z(r == 0);
     Word {
         value: r,
         flags: flags,

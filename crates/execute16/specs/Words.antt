@@ -11,9 +11,10 @@ use Rattle.state.specs.declared.Flags.{Flags}
 use Rattle.state.specs.declared.State.{State}
 use Rattle.state.specs.State.{withD, withX, withY, withSp, withFlags, dOf}
 use Rattle.opcodes.specs.Kind.{SUBD, ADDD, CPD, CPY, CPX, CPS, LDD, LDY, LDX, STAA, STAB, STD, STY, STX, MAXA, MINA, EMAXD, EMIND, MAXM, MINM, EMAXM}
-use Rattle.alu.specs.declared.Byte.{Byte}
-use Rattle.alu.specs.declared.Word.{Word}
-use Rattle.alu.specs.Alu.{wideOf, resultCodes, addWord, subWord, maxByte, minByte, maxWord, minWord}
+use Rattle.results.specs.declared.Byte.{Byte}
+use Rattle.results.specs.declared.Word.{Word}
+use Rattle.results.specs.Results.{wideOf, resultCodes}
+use Rattle.alu.specs.Alu.{addWord, subWord, maxByte, minByte, maxWord, minWord}
 use Rattle.operand.specs.Operand.{operandPlace}
 use Rattle.decode.specs.declared.Decoded.{Decoded}
 use Rattle.effect.specs.declared.Effect.{Effect}

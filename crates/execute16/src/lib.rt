@@ -1,12 +1,12 @@
 // The instructions on words, the stores, the larger or smaller of two, what works on registers and condition codes alone, and table
 // lookup. Where an operand lies was found before; what two sizes may have is read here.
-use alu::Byte;
-use alu::Word;
 use effect::Effect;
 use execute8::a_result;
 use execute8::b_result;
 use memory::Store;
 use opcodes::kind;
+use results::Byte;
+use results::Word;
 use state::Flags;
 use state::State;
 ghost use mathlib.Core.Path.{_≡_};
@@ -21,7 +21,7 @@ ghost use Rattle.execute16.specs.Lookups.{lookedUp};
 fn loaded_word(f: Flags, m: u16) -> Word
     ensures { λ r. ⌜ r ≡ loadedWord f m ⌝ }
 {
-    let flags = alu::result_16(f, m);
+    let flags = results::result_16(f, m);
     Word {
         value: m,
         flags: flags,
@@ -92,14 +92,22 @@ fn byte_stored(s: State, cost: u8, a: u16, v: u8) -> Effect
     ensures { λ r. ⌜ r ≡ byteStored s cost a v ⌝ }
 {
     let f = s.flags;
-    effect::writes(s.with_flags(alu::result_8(f, v)), cost, Store::byte(a, v))
+    effect::writes(
+        s.with_flags(results::result_8(f, v)),
+        cost,
+        Store::byte(a, v),
+    )
 }
 
 fn word_stored(s: State, cost: u8, a: u16, v: u16) -> Effect
     ensures { λ r. ⌜ r ≡ wordStored s cost a v ⌝ }
 {
     let f = s.flags;
-    effect::writes(s.with_flags(alu::result_16(f, v)), cost, Store::word(a, v))
+    effect::writes(
+        s.with_flags(results::result_16(f, v)),
+        cost,
+        Store::word(a, v),
+    )
 }
 
 // A register is stored at the address `a`.

@@ -12,8 +12,10 @@ use Rattle.state.specs.declared.Flags.{Flags}
 use Rattle.state.specs.declared.State.{State}
 use Rattle.state.specs.State.{withA, withB, withFlags}
 use Rattle.opcodes.specs.Kind.{memberOf, SUBA, CMPA, SBCA, ANDA, BITA, LDAA, EORA, ADCA, ORAA, NEG, COM, INC, DEC, LSR, ROL, ROR, ASR, ASL, CLR, TST}
-use Rattle.alu.specs.declared.Byte.{Byte}
-use Rattle.alu.specs.Alu.{byteOf, resultCodes, addByte, subByte, andByte, orByte, eorByte, negByte, comByte, incByte, decByte, clrByte, tstByte}
+use Rattle.results.specs.declared.Byte.{Byte}
+use Rattle.results.specs.Results.{byteOf, resultCodes}
+use Rattle.logic.specs.Logic.{andByte, orByte, eorByte, comByte, clrByte, tstByte}
+use Rattle.alu.specs.Alu.{addByte, subByte, negByte, incByte, decByte}
 use Rattle.shift.specs.Shift.{lsrByte, rolByte, rorByte, asrByte, aslByte}
 use Rattle.operand.specs.declared.Place.{Place}
 use Rattle.operand.specs.Operand.{operandPlace}

@@ -1,10 +1,10 @@
 // The instructions on bytes: A or B with an operand, and a byte changed in memory or in A or B. Everything here is numbers: where an
 // operand lies, and what stands there, was found before.
-use alu::Byte;
 use effect::Effect;
 use memory::Store;
 use opcodes::kind;
 use opcodes::member;
+use results::Byte;
 use state::Flags;
 use state::State;
 ghost use mathlib.Core.Path.{_≡_};
@@ -24,7 +24,7 @@ fn keeping(x: u8, r: Byte) -> Byte
 pub fn loaded_byte(f: Flags, m: u8) -> Byte
     ensures { λ r. ⌜ r ≡ loadedByte f m ⌝ }
 {
-    let flags = alu::result_8(f, m);
+    let flags = results::result_8(f, m);
     Byte {
         value: m,
         flags: flags,
@@ -38,12 +38,12 @@ fn accumulated(member: u16, f: Flags, x: u8, m: u8) -> Byte
         member::SUB => alu::sub_8(f, x, m, false),
         member::CMP => keeping(x, alu::sub_8(f, x, m, false)),
         member::SBC => alu::sub_8(f, x, m, f.c),
-        member::AND => alu::and_8(f, x, m),
-        member::BIT => keeping(x, alu::and_8(f, x, m)),
+        member::AND => logic::and_8(f, x, m),
+        member::BIT => keeping(x, logic::and_8(f, x, m)),
         member::LD => loaded_byte(f, m),
-        member::EOR => alu::eor_8(f, x, m),
+        member::EOR => logic::eor_8(f, x, m),
         member::ADC => alu::add_8(f, x, m, f.c),
-        member::OR => alu::or_8(f, x, m),
+        member::OR => logic::or_8(f, x, m),
         _ => alu::add_8(f, x, m, false),
     }
 }
@@ -53,7 +53,7 @@ fn changed(member: u16, f: Flags, m: u8) -> Byte
 {
     match member {
         member::NEG => alu::neg(f, m),
-        member::COM => alu::com(f, m),
+        member::COM => logic::com(f, m),
         member::INC => alu::inc(f, m),
         member::DEC => alu::dec(f, m),
         member::LSR => shift::lsr(f, m),
@@ -61,8 +61,8 @@ fn changed(member: u16, f: Flags, m: u8) -> Byte
         member::ROR => shift::ror(f, m),
         member::ASR => shift::asr(f, m),
         member::ASL => shift::asl(f, m),
-        member::CLR => alu::clr(f),
-        _ => alu::tst(f, m),
+        member::CLR => logic::clr(f),
+        _ => logic::tst(f, m),
     }
 }
 

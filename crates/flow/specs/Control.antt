@@ -10,7 +10,8 @@ use Rattle.opcodes.specs.Kind.{BSR, RTS, RTI, WAI}
 use Rattle.decode.specs.declared.Decoded.{Decoded}
 use Rattle.effect.specs.declared.Effect.{Effect}
 use Rattle.effect.specs.Effect.{quiet}
-use Rattle.stack.specs.Stack.{subroutineEffect, returnEffect, waitEffect, pulledFrame}
+use Rattle.stack.specs.Stack.{subroutineEffect, returnEffect}
+use Rattle.frames.specs.Frames.{waitEffect, pulledFrame}
 use Rattle.flow.specs.Branches.{loopEffect}
 
 -- BSR, RTS, RTI, WAI, and the last LOOP

@@ -99,8 +99,8 @@ pub fn control(s: State, m: &[u8], d: Decoded) -> Effect
     match kind {
         kind::BSR => stack::subroutine(s, d.cost, word::plus(s.pc, word::extend_8(d.postbyte))),
         kind::RTS => stack::returned(s, m, d.cost),
-        kind::RTI => effect::quiet(stack::pulled_frame(s, m), d.cost),
-        kind::WAI => stack::wait(s, d.cost),
+        kind::RTI => effect::quiet(frames::pulled_frame(s, m), d.cost),
+        kind::WAI => frames::wait(s, d.cost),
         _ => loop_primitive(
             s,
             d.postbyte,

@@ -8,7 +8,7 @@ use Rattle.word.specs.Word.{pick, minusW, extend8}
 use Rattle.memory.specs.Memory.{byteAt, storeByte}
 use Rattle.state.specs.declared.State.{State}
 use Rattle.state.specs.State.{withFlags}
-use Rattle.alu.specs.Alu.{orByte, bclrByte, allClear, allSet}
+use Rattle.logic.specs.Logic.{orByte, bclrByte, allClear, allSet}
 use Rattle.opcodes.specs.Kind.{BSET, BCLR, BRSET}
 use Rattle.operand.specs.Operand.{operandPlace}
 use Rattle.decode.specs.declared.Decoded.{Decoded}

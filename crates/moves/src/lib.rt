@@ -1,9 +1,9 @@
 // Moves, what takes the operand's address alone, and bits of memory.
-use alu::Byte;
 use decode::Decoded;
 use effect::Effect;
 use memory::Store;
 use opcodes::kind;
+use results::Byte;
 use state::Flags;
 use state::State;
 ghost use mathlib.Core.Path.{_≡_};
@@ -11,7 +11,7 @@ ghost use mathlib.Core.Bool.{true};
 ghost use lib.ListN.{length};
 ghost use Rattle.word.specs.Word.{pick};
 ghost use Rattle.decode.specs.Decode.{Faithful};
-ghost use Rattle.alu.specs.Alu.{allClear, allSet, orByte, bclrByte};
+ghost use Rattle.logic.specs.Logic.{allClear, allSet, orByte, bclrByte};
 ghost use Rattle.moves.specs.Addresses.{addressed};
 ghost use Rattle.moves.specs.Bits.{bitsChanged, bitsBranched, bitted};
 ghost use Rattle.moves.specs.Moves.{byteMoveEffect, wordMoveEffect, moveEffect};
@@ -33,9 +33,9 @@ fn with_bits(set: bool, f: Flags, v: u8, mask: u8) -> Byte
     ensures { λ r. ⌜ r ≡ pick set (orByte f v mask) (bclrByte f v mask) ⌝ }
 {
     if set {
-        return alu::or_8(f, v, mask);
+        return logic::or_8(f, v, mask);
     }
-    alu::bclr(f, v, mask)
+    logic::bclr(f, v, mask)
 }
 
 fn bits_changed(s: State, set: bool, mask: u8, v: u8, a: u16, cost: u8) -> Effect
@@ -51,9 +51,9 @@ fn bits_tested(set: bool, v: u8, mask: u8) -> bool
     ensures { λ r. ⌜ r ≡ pick set (allSet v mask) (allClear v mask) ⌝ }
 {
     if set {
-        return alu::bits_set(v, mask);
+        return logic::bits_set(v, mask);
     }
-    alu::bits_clear(v, mask)
+    logic::bits_clear(v, mask)
 }
 
 fn bits_branched(s: State, set: bool, mask: u8, n: u8, v: u8, cost: u8) -> Effect

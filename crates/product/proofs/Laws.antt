@@ -8,8 +8,8 @@ use lib.Dec.{leb}
 use lib.Pow.{pow-pos, pow-add}
 use borrow.Author.Tests.{leb-true}
 use Rattle.word.specs.Word.{pick}
-use Rattle.alu.specs.Alu.{exclusiveOr}
-use Rattle.alu.proofs.Laws.{top-upper}
+use Rattle.results.specs.Results.{exclusiveOr}
+use Rattle.results.proofs.Laws.{top-upper}
 use Rattle.product.specs.Product.{SignedProduct, RowEight}
 
 -- a product of two numbers of k bits has at most k + k

@@ -6,8 +6,8 @@ use lib.Dec.{eqb}
 use Rattle.word.specs.Word.{bitOf, pick, extend16}
 use Rattle.state.specs.declared.Flags.{Flags}
 use Rattle.state.specs.Ccr.{setN, setZ, setC}
-use Rattle.alu.specs.declared.Word.{Word}
-use Rattle.alu.specs.Alu.{wideOf, setNZVC, carried, sumOverflow, exclusiveOr}
+use Rattle.results.specs.declared.Word.{Word}
+use Rattle.results.specs.Results.{wideOf, setNZVC, carried, sumOverflow, exclusiveOr}
 use Rattle.product.specs.declared.Long.{Long}
 use Rattle.quotient.specs.Divide.{magnitudeOf}
 

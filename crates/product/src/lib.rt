@@ -1,5 +1,5 @@
 // The multiplications: the results and the codes after, from the codes before and the registers.
-use alu::Word;
+use results::Word;
 use state::Flags;
 ghost use mathlib.Core.Path.{_≡_};
 ghost use Rattle.word.specs.Word.{bitOf};
@@ -73,8 +73,8 @@ pub fn emacs(f: Flags, x: u16, y: u16, m: u32) -> Long
     let i = signed_product(x, y);
     let r = ((m as u64 + i as u64) % 4294967296) as u32;
     let n = top_32(r);
-    let v = alu::sum_overflow(top_32(m), top_32(i), n);
-    let flags = alu::nzvc(f, n, r == 0, v, m % 65536 + i % 65536 > 65535);
+    let v = results::sum_overflow(top_32(m), top_32(i), n);
+    let flags = results::nzvc(f, n, r == 0, v, m % 65536 + i % 65536 > 65535);
     Long {
         value: r,
         flags: flags,

@@ -12,7 +12,7 @@ use Rattle.memory.specs.Memory.{byteAt, storeAll, committed, storeNine, bytesSt
 use Rattle.memory.proofs.Laws.{store-keeps, store-none, stores-exactly, store-by-byte}
 use Rattle.state.specs.declared.State.{State}
 use Rattle.state.specs.State.{withClock}
-use Rattle.stack.specs.Stack.{frameOf}
+use Rattle.frames.specs.Frames.{frameOf}
 use Rattle.turn.specs.Turn.{turnOf}
 use Rattle.refusals.specs.Given.{Given, lineIn}
 use Rattle.run.specs.Step.{turnState, turnMemory}

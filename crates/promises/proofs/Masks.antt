@@ -9,7 +9,7 @@ use Rattle.state.specs.declared.Flags.{Flags}
 use Rattle.state.specs.declared.Standing.{Standing}
 use Rattle.state.specs.declared.State.{State}
 use Rattle.effect.specs.declared.Effect.{Effect}
-use Rattle.stack.specs.Stack.{frameOf, interruptEffect, waitEffect}
+use Rattle.frames.specs.Frames.{frameOf, interruptEffect, waitEffect}
 use Rattle.turn.specs.declared.Turn.{Turn}
 use Rattle.requests.specs.Requests.{allowedLine, masked, entryEffect, wakeEffect}
 use Rattle.turn.specs.Turn.{turnOf}

@@ -12,7 +12,7 @@ use Rattle.memory.specs.Memory.{byteAt, wordAt, committed, AreBytes}
 use Rattle.memory.proofs.Laws.{store-none}
 use Rattle.state.specs.declared.State.{State}
 use Rattle.state.specs.declared.Flags.{Flags}
-use Rattle.stack.specs.Stack.{frameOf, interruptEffect}
+use Rattle.frames.specs.Frames.{frameOf, interruptEffect}
 use Rattle.machine.specs.declared.Reply.the-variants.{Done}
 use Rattle.machine.specs.Names.{numberOf, lineVector}
 use Rattle.machine.specs.Reset.{resetOf}

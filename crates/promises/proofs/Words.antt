@@ -10,7 +10,7 @@ use Rattle.state.specs.declared.State.{State}
 use Rattle.state.proofs.Laws.{ccr-below}
 use Rattle.effect.specs.declared.Effect.{Effect}
 use Rattle.effect.specs.Effect.{quiet}
-use Rattle.stack.specs.Stack.{frameStore, interruptEffect, waitEffect}
+use Rattle.frames.specs.Frames.{frameStore, interruptEffect, waitEffect}
 use Rattle.turn.specs.declared.Turn.{Turn}
 use Rattle.requests.specs.Requests.{entryEffect, wakeEffect}
 use Rattle.walk.specs.Words.{Words}

@@ -6,7 +6,7 @@ use mathlib.Core.Bool.{true, false}
 use mathlib.Core.List.{List}
 use Rattle.memory.specs.Memory.{noStore, storeNine}
 use Rattle.state.specs.declared.State.{State}
-use Rattle.stack.specs.Stack.{frameOf}
+use Rattle.frames.specs.Frames.{frameOf}
 use Rattle.requests.specs.Requests.{allowedLine}
 use Rattle.turn.specs.Turn.{turnOf}
 use Rattle.refusals.specs.Given.{Given, lineIn}

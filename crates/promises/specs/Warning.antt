@@ -7,7 +7,7 @@ use lib.ListN.{getD}
 use Rattle.word.specs.Word.{bitOf, plusW}
 use Rattle.memory.specs.Memory.{byteAt, wordAt, AreBytes}
 use Rattle.state.specs.declared.State.{State}
-use Rattle.stack.specs.Stack.{frameOf}
+use Rattle.frames.specs.Frames.{frameOf}
 use Rattle.machine.specs.Names.{numberOf, lineVector}
 use Rattle.machine.specs.Reset.{resetOf}
 use Rattle.requests.specs.Requests.{allowedLine}

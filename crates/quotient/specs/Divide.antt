@@ -8,7 +8,7 @@ use lib.Dec.{leb, eqb}
 use Rattle.word.specs.Word.{bitOf, pick, longOf}
 use Rattle.state.specs.declared.Flags.{Flags}
 use Rattle.state.specs.Ccr.{setZ, setV, setC}
-use Rattle.alu.specs.Alu.{setNZVC, exclusiveOr}
+use Rattle.results.specs.Results.{setNZVC, exclusiveOr}
 use Rattle.quotient.specs.declared.Division.{Division}
 
 -- X̄k · .. · X̄1 · X̄0: the divisor was zero. C of every division

@@ -71,7 +71,7 @@ fn too_large(f: Flags, q: u16, r: u16) -> Division
 fn fitting(f: Flags, q: u16, r: u16) -> Division
     ensures { λ s. ⌜ s ≡ divided f q r ⌝ }
 {
-    let flags = alu::nzvc(f, alu::top_16(q), q == 0, false, false);
+    let flags = results::nzvc(f, results::top_16(q), q == 0, false, false);
     Division {
         quotient: q,
         remainder: r,
@@ -127,7 +127,7 @@ fn signed_division(f: Flags, q: u16, d: u16, negative: bool, n: u32, x: u16) -> 
         return by_zero(f, q, d);
     }
     let divisor = magnitude_16(x);
-    let sign = alu::top_16(x);
+    let sign = results::top_16(x);
     let unlike = negative & !sign | !negative & sign;
     let m = n / divisor;
     if unlike & (m >= 32769) | !unlike & (m >= 32768) {
@@ -140,12 +140,12 @@ fn signed_division(f: Flags, q: u16, d: u16, negative: bool, n: u32, x: u16) -> 
 pub fn idivs(f: Flags, d: u16, x: u16) -> Division
     ensures { λ r. ⌜ r ≡ idivsOf f d x ⌝ }
 {
-    signed_division(f, x, d, alu::top_16(d), magnitude_16(d), x)
+    signed_division(f, x, d, results::top_16(d), magnitude_16(d), x)
 }
 
 pub fn edivs(f: Flags, y: u16, d: u16, x: u16) -> Division
     ensures { λ r. ⌜ r ≡ edivsOf f y d x ⌝ }
 {
     let n = word::long(y, d);
-    signed_division(f, y, d, alu::top_16(y), magnitude_32(n), x)
+    signed_division(f, y, d, results::top_16(y), magnitude_32(n), x)
 }

@@ -11,7 +11,7 @@ use Rattle.state.specs.Ccr.{setX, setI}
 use Rattle.state.specs.State.{withPc, withFlags, withWaiting}
 use Rattle.effect.specs.declared.Effect.{Effect}
 use Rattle.effect.specs.Effect.{quiet}
-use Rattle.stack.specs.Stack.{interruptEffect}
+use Rattle.frames.specs.Frames.{interruptEffect}
 use Rattle.machine.specs.Names.{lineVector, entryCost, wakeCost}
 
 -- The lowest line from 1 to 7 whose bit is set; 8 is none.

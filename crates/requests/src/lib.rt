@@ -76,7 +76,7 @@ pub fn entry(s: State, m: &[u8], k: u8) -> Effect
     ensures { λ r. ⌜ r ≡ entryEffect s (now (m .entry)) k ⌝ }
 {
     let f = s.flags;
-    stack::interrupt(s, m, line_vector(k), masked(k, f), Machine::ENTRY_COST)
+    frames::interrupt(s, m, line_vector(k), masked(k, f), Machine::ENTRY_COST)
 }
 
 // Line k ends a wait. The frame was pushed when the wait began.

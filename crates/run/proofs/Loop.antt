@@ -17,7 +17,7 @@ use Rattle.turn.specs.declared.Turn.{Turn}
 use Rattle.run.specs.declared.Answer.{Answer}
 use Rattle.refusals.specs.Given.{Given, lineIn}
 use Rattle.run.specs.End.{End, endIs, endsHere, after, Ends}
-use Rattle.run.specs.Step.{acted}
+use Rattle.effect.specs.Effect.{acted}
 use Rattle.run.specs.Run.{turnAt, nextState, nextMemory, goesOn}
 
 -- the three ways on from a boundary

@@ -19,7 +19,8 @@ use Rattle.walk.proofs.Turns.{turn-idle}
 use Rattle.walk.proofs.Bounds.{every-step-costs}
 use Rattle.refusals.specs.Given.{Given, givenIs}
 use Rattle.run.specs.End.{endIs, endsHere, after}
-use Rattle.run.specs.Step.{acted, turnEnd, turnState, turnMemory, turnCost}
+use Rattle.effect.specs.Effect.{acted}
+use Rattle.run.specs.Step.{turnEnd, turnState, turnMemory, turnCost}
 use Rattle.run.specs.Run.{turnAt, goesOn}
 use Rattle.run.proofs.Loop.{run-stops, run-steps, run-over}
 

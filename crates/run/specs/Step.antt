@@ -1,20 +1,15 @@
 -- A single step: reply, state, cycles used and all bytes, for every input (document 01, "Numbered replies").
-use Prim.Native.Nat.{ℕ, _+_}
+use Prim.Native.Nat.{ℕ}
 use mathlib.Core.List.{List}
 use lib.Dec.{eqb}
 use Rattle.word.specs.Word.{pick}
 use Rattle.memory.specs.Memory.{committed}
 use Rattle.state.specs.declared.State.{State}
-use Rattle.state.specs.State.{withClock}
-use Rattle.effect.specs.declared.Effect.{Effect}
+use Rattle.effect.specs.Effect.{acted}
 use Rattle.machine.specs.Names.{numberOf}
 use Rattle.refusals.specs.Refusals.{refusal}
 use Rattle.turn.specs.Turn.{turnOf}
 use Rattle.run.specs.End.{End, endIs, endsHere}
-
--- the state after an effect: the clock has grown by its cost
-abbrev pub acted : State → Effect → State
-acted s e = withClock (e .state) (s .clock + e .cost)
 
 -- what a turn leaves: its effect is acted on, and its store is made
 abbrev pub turnCost : State → List ℕ → ℕ → ℕ

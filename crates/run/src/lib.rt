@@ -1,6 +1,5 @@
 // One step under a line byte, and a run with a schedule and a budget: one loop. What is lent is tested first (`refusals`), and refused
 // with document 01's number.
-use effect::Effect;
 use machine::Machine;
 use machine::Reply;
 use state::State;
@@ -8,14 +7,13 @@ ghost use mathlib.Core.Path.{_≡_};
 ghost use mathlib.Core.Bool.{true};
 ghost use Prim.Native.Nat.{_+_, _≤_};
 ghost use lib.ListN.{length};
-ghost use Rattle.memory.specs.Memory.{committed};
 ghost use Rattle.opcodes.specs.Grid.{grid as gridOf};
 ghost use Rattle.opcodes.specs.Map.{opcodeMap};
 ghost use Rattle.schedule.specs.Schedule.{rising};
 ghost use Rattle.machine.specs.Names.{clockLimit};
 ghost use Rattle.refusals.specs.Given.{givenIs};
 ghost use Rattle.run.specs.End.{Ends};
-ghost use Rattle.run.specs.Step.{acted, stepOf};
+ghost use Rattle.run.specs.Step.{stepOf};
 ghost use Rattle.run.specs.Run.{goesOn, runOf};
 
 // What a step or a run answers: the machine after it, and the cycles that it used.
@@ -38,18 +36,6 @@ fn answered(reply: Reply, state: State, cycles: u32) -> Answer
 
 // No step costs more, so that this budget is enough for any one.
 const ONE_STEP: u32 = 13;
-
-// What was worked out is done: its store is made, and the clock moves by its cost.
-fn act(s: State, m: &mut [u8], e: Effect) -> State
-    requires { ⌜ length (now m) ≡ 65536 ⌝ }
-    requires { ⌜ s .clock + e .cost ≤ clockLimit ⌝ }
-    ensures { λ r. ⌜ (r ≡ acted s e) × (now (m .exit) ≡ committed (now (m .entry)) (e .store)) ⌝ }
-{
-    let after = e.state;
-    let store = e.store;
-    memory::commit(m, store);
-    after.with_clock(s.clock + e.cost as u32)
-}
 
 // So many boundaries, or until a step costs more than is left or the machine stops. What was lent has been tested.
 fn go(
@@ -91,7 +77,7 @@ fn go(
         if left < cost {
             break answered(Reply::Done, s, used);
         }
-        s = act(s, m, done);
+        s = effect::act(s, m, done);
         left = left - cost;
         used = used + cost;
         more = more - 1;

@@ -5,7 +5,7 @@ use native.Mathlib.Omega.{arith}
 use mathlib.Core.Path.{_≡_, refl}
 use mathlib.Core.Bool.{Bool, true, false}
 use Rattle.word.specs.Word.{bitOf}
-use Rattle.alu.specs.Alu.{exclusiveOr}
+use Rattle.results.specs.Results.{exclusiveOr}
 use Rattle.shift.specs.Shift.{rightOf, ClearsN, OverflowIsC}
 
 pub clears-n : ClearsN

@@ -7,9 +7,9 @@ use lib.Dec.{eqb}
 use Rattle.word.specs.Word.{bitOf}
 use Rattle.state.specs.declared.Flags.{Flags}
 use Rattle.state.specs.Ccr.{weightOf}
-use Rattle.alu.specs.declared.Byte.{Byte}
-use Rattle.alu.specs.declared.Word.{Word}
-use Rattle.alu.specs.Alu.{byteOf, wideOf, setNZVC, exclusiveOr}
+use Rattle.results.specs.declared.Byte.{Byte}
+use Rattle.results.specs.declared.Word.{Word}
+use Rattle.results.specs.Results.{byteOf, wideOf, setNZVC, exclusiveOr}
 
 -- all bits one place to the left, and `low` into bit 0 (pages of ASL, ROL)
 abbrev pub leftOf : ℕ → ℕ → Bool → ℕ

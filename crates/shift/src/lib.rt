@@ -1,10 +1,10 @@
 // The shifts and rotates, at 8 and at 16 bits: the result and the codes after, from the codes before and the operand.
-use alu::Byte;
-use alu::Word;
+use results::Byte;
+use results::Word;
 use state::Flags;
 ghost use mathlib.Core.Path.{_≡_};
 ghost use Rattle.word.specs.Word.{bitOf};
-ghost use Rattle.alu.specs.Alu.{exclusiveOr};
+ghost use Rattle.results.specs.Results.{exclusiveOr};
 ghost use Rattle.shift.specs.Shift.{leftOf, rightOf, shiftCodes, aslByte, rolByte, lsrByte, asrByte, rorByte, asldWord, lsrdWord};
 
 // V is the exclusive or of N and C after the shift.
@@ -17,15 +17,15 @@ fn overflow(n: bool, c: bool) -> bool
 fn codes_8(f: Flags, c: bool, r: u8) -> Flags
     ensures { λ g. ⌜ g ≡ shiftCodes 7 f c r ⌝ }
 {
-    let n = alu::top_8(r);
-    alu::nzvc(f, n, r == 0, overflow(n, c), c)
+    let n = results::top_8(r);
+    results::nzvc(f, n, r == 0, overflow(n, c), c)
 }
 
 fn codes_16(f: Flags, c: bool, r: u16) -> Flags
     ensures { λ g. ⌜ g ≡ shiftCodes 15 f c r ⌝ }
 {
-    let n = alu::top_16(r);
-    alu::nzvc(f, n, r == 0, overflow(n, c), c)
+    let n = results::top_16(r);
+    results::nzvc(f, n, r == 0, overflow(n, c), c)
 }
 
 fn left_8(m: u8, low: bool) -> u8
@@ -57,7 +57,7 @@ pub fn asl(f: Flags, m: u8) -> Byte
     ensures { λ r. ⌜ r ≡ aslByte f m ⌝ }
 {
     let r = left_8(m, false);
-    let flags = codes_8(f, alu::top_8(m), r);
+    let flags = codes_8(f, results::top_8(m), r);
     Byte {
         value: r,
         flags: flags,
@@ -68,7 +68,7 @@ pub fn rol(f: Flags, m: u8) -> Byte
     ensures { λ r. ⌜ r ≡ rolByte f m ⌝ }
 {
     let r = left_8(m, f.c);
-    let flags = codes_8(f, alu::top_8(m), r);
+    let flags = codes_8(f, results::top_8(m), r);
     Byte {
         value: r,
         flags: flags,
@@ -89,7 +89,7 @@ pub fn lsr(f: Flags, m: u8) -> Byte
 pub fn asr(f: Flags, m: u8) -> Byte
     ensures { λ r. ⌜ r ≡ asrByte f m ⌝ }
 {
-    let r = right_8(m, alu::top_8(m));
+    let r = right_8(m, results::top_8(m));
     let flags = codes_8(f, lowest(m), r);
     Byte {
         value: r,
@@ -113,7 +113,7 @@ pub fn asld(f: Flags, d: u16) -> Word
     ensures { λ r. ⌜ r ≡ asldWord f d ⌝ }
 {
     let r = (d as u32 * 2 % 65536) as u16;
-    let flags = codes_16(f, alu::top_16(d), r);
+    let flags = codes_16(f, results::top_16(d), r);
     Word {
         value: r,
         flags: flags,

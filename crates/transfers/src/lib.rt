@@ -84,7 +84,7 @@ fn move_register(s: State, old: State, to: u8, from: u8, fill: u8) -> State
 fn sign_fill(b: u8) -> u8
     ensures { λ r. ⌜ r ≡ signFill b ⌝ }
 {
-    if alu::top_8(b) { 255 } else { 0 }
+    if results::top_8(b) { 255 } else { 0 }
 }
 
 // The high byte that EXG gives back to a register of 16 bits: $00 : A, $FF : B, $FF : CCR.

@@ -19,7 +19,8 @@ use Rattle.execute16.specs.Words.{withWordEffect, storeEffect, chooseEffect}
 use Rattle.execute16.specs.Registers.{registersEffect}
 use Rattle.products.specs.Products.{productEffect}
 use Rattle.execute16.specs.Lookups.{lookupEffect}
-use Rattle.stack.specs.Stack.{stackEffect, interruptEffect}
+use Rattle.stack.specs.Stack.{stackEffect}
+use Rattle.frames.specs.Frames.{interruptEffect}
 use Rattle.flow.specs.Branches.{shortEffect, longEffect}
 use Rattle.flow.specs.Control.{controlEffect}
 use Rattle.moves.specs.Moves.{moveEffect}

@@ -27,10 +27,10 @@ fn controlled(s: State, m: &[u8], d: Decoded) -> Effect
 {
     let f = s.flags;
     if d.kind == kind::SWI {
-        return stack::interrupt(s, m, Machine::SWI_VECTOR, f.with_i(true), d.cost);
+        return frames::interrupt(s, m, Machine::SWI_VECTOR, f.with_i(true), d.cost);
     }
     if d.kind == kind::TRAP {
-        return stack::interrupt(s, m, Machine::TRAP_VECTOR, f.with_i(true), d.cost);
+        return frames::interrupt(s, m, Machine::TRAP_VECTOR, f.with_i(true), d.cost);
     }
     flow::control(s, m, d)
 }

@@ -17,7 +17,7 @@ use Rattle.opcodes.specs.Rules.{prebyteCell, runs as runsAt, Bounded}
 use Rattle.opcodes.proofs.Cells.{cell-number-below, every-cell, every-instruction}
 use Rattle.decode.specs.Decode.{onPageTwo, cellAt, afterOpcode}
 use Rattle.effect.specs.declared.Effect.{Effect}
-use Rattle.stack.specs.Stack.{interruptEffect, waitEffect}
+use Rattle.frames.specs.Frames.{interruptEffect, waitEffect}
 use Rattle.machine.specs.declared.Reply.{Reply}
 use Rattle.machine.specs.declared.Reply.the-variants.{Done}
 use Rattle.turn.specs.declared.Turn.{Turn}

@@ -4,7 +4,7 @@ use mathlib.Core.Path.{_≡_, refl}
 use mathlib.Core.List.{List}
 use Rattle.state.specs.declared.State.{State}
 use Rattle.effect.specs.declared.Effect.{Effect}
-use Rattle.stack.specs.Stack.{interruptEffect, waitEffect}
+use Rattle.frames.specs.Frames.{interruptEffect, waitEffect}
 use Rattle.turn.specs.declared.Turn.{Turn}
 use Rattle.requests.specs.Requests.{entryEffect, wakeEffect}
 use Rattle.walk.specs.Walk.{Before, Gives}

@@ -6,8 +6,8 @@ use lib.Dec.{leb, eqb}
 use Rattle.word.specs.Word.{bitOf}
 use Rattle.state.specs.declared.Flags.{Flags}
 use Rattle.opcodes.specs.Kind.{memberOf, SUBA, CMPA, SBCA, ANDA, BITA, LDAA, EORA, ADCA, ORAA, NEG, COM, INC, DEC, LSR, ROL, ROR, ASR, ASL, CLR}
-use Rattle.alu.specs.declared.Byte.{Byte}
-use Rattle.alu.specs.Alu.{exclusiveOr}
+use Rattle.results.specs.declared.Byte.{Byte}
+use Rattle.results.specs.Results.{exclusiveOr}
 use Rattle.quotient.specs.declared.Division.{Division}
 use Rattle.quotient.specs.Divide.{noneSet, magnitudeOf, outside, edivOf, signedDivision, idivsOf, edivsOf}
 use Rattle.word.proofs.Laws.{both}

@@ -14,7 +14,7 @@ use Rattle.state.specs.declared.Flags.{Flags}
 use Rattle.state.specs.declared.State.{State}
 use Rattle.state.specs.State.{dOf}
 use Rattle.state.proofs.Laws.{never-sets-x}
-use Rattle.alu.specs.Alu.{allClear, allSet}
+use Rattle.logic.specs.Logic.{allClear, allSet}
 use Rattle.codes.specs.Conditions.{conditionOf}
 use Rattle.codes.specs.Loops.{countByte, countWord}
 use Rattle.state.proofs.Laws.{ccr-below}
@@ -22,7 +22,8 @@ use Rattle.opcodes.specs.Kind.{memberOf, PULX, PULY, PULA, PULB, PSHX, PSHY, PS
 use Rattle.opcodes.specs.Kind.{BSR, RTS, RTI, WAI, LEAY, LEAX, LEAS, JMP, BSET, BCLR, BRSET, MOVB}
 use Rattle.decode.specs.declared.Decoded.{Decoded}
 use Rattle.stack.specs.Stack.{bytePushed, wordPushed, pulled, stacked, stackEffect}
-use Rattle.stack.specs.Stack.{subroutineEffect, returnEffect, interruptEffect, waitEffect, pulledFrame}
+use Rattle.stack.specs.Stack.{subroutineEffect, returnEffect}
+use Rattle.frames.specs.Frames.{interruptEffect, waitEffect, pulledFrame}
 use Rattle.flow.specs.Branches.{branched, shortEffect, longEffect, looped, loopDone, loopEffect}
 use Rattle.flow.specs.Control.{controlEffect}
 use Rattle.moves.specs.Moves.{byteMoveEffect, wordMoveEffect, moveEffect}

@@ -17,7 +17,7 @@ use Rattle.transfers.specs.Registers.{byteFrom, wordFrom}
 use Rattle.word.proofs.Laws.{both}
 use Rattle.state.proofs.Laws.{ccr-below}
 use Rattle.operand.specs.Indexed.{baseOf}
-use Rattle.stack.specs.Stack.{frameOf, frameStore}
+use Rattle.frames.specs.Frames.{frameOf, frameStore}
 use Rattle.walk.specs.Words.{Words}
 
 -- every number of a list is below a bound, and so is 0, which stands for what is past its end

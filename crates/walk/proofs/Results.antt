@@ -12,8 +12,8 @@ use Rattle.word.specs.Word.{pick, bitOf}
 use Rattle.word.proofs.Laws.{both}
 use Rattle.state.specs.declared.Flags.{Flags}
 use Rattle.opcodes.specs.Kind.{memberOf, SUBA, CMPA, SBCA, ANDA, BITA, LDAA, EORA, ADCA, ORAA, NEG, COM, INC, DEC, LSR, ROL, ROR, ASR, ASL, CLR}
-use Rattle.alu.specs.declared.Byte.{Byte}
-use Rattle.alu.specs.Alu.{exclusiveOr}
+use Rattle.results.specs.declared.Byte.{Byte}
+use Rattle.results.specs.Results.{exclusiveOr}
 use Rattle.shift.specs.Shift.{rightOf}
 use Rattle.decimal.specs.Lookup.{lookupOf}
 use Rattle.decimal.proofs.Laws.{lookup-below}

@@ -15,7 +15,7 @@ use Rattle.word.proofs.Laws.{both}
 use Rattle.state.proofs.Laws.{ccr-below}
 use Rattle.effect.specs.declared.Effect.{Effect}
 use Rattle.effect.specs.Effect.{quiet, writes}
-use Rattle.stack.specs.Stack.{frameStore}
+use Rattle.frames.specs.Frames.{frameStore}
 use Rattle.walk.specs.Words.{Words}
 use Rattle.walk.specs.Walk.{Before, Fits, Stores, Comes, Gives}
 use Rattle.walk.specs.Walk.Comes.{begins, sets-a, sets-b, sets-x, sets-y, sets-sp, sets-pc, sets-codes}

@@ -16,7 +16,7 @@ use Rattle.opcodes.specs.Kind.{groupOf, SHORT-BRANCHES, LONG-BRANCHES}
 use Rattle.decode.specs.declared.Decoded.{Decoded}
 use Rattle.effect.specs.declared.Effect.{Effect}
 use Rattle.effect.specs.Effect.{quiet, writes}
-use Rattle.stack.specs.Stack.{frameStore, waitEffect}
+use Rattle.frames.specs.Frames.{frameStore, waitEffect}
 use Rattle.turn.specs.Turn.{executed}
 use Rattle.walk.specs.Words.{Words}
 

@@ -10,7 +10,7 @@ use Rattle.execute8.specs.Bytes.{accumulated, changed, withAEffect, inAEffect}
 use Rattle.execute16.specs.Registers.{firstRegisters, secondRegisters, registered, registersEffect}
 use Rattle.products.specs.Products.{multiplied, productEffect}
 use Rattle.flow.specs.Branches.{shortEffect}
-use Rattle.stack.specs.Stack.{interruptEffect}
+use Rattle.frames.specs.Frames.{interruptEffect}
 use Rattle.requests.specs.Requests.{allowedLine}
 use Rattle.turn.specs.Turn.{controlled, withOperand, executed, instructed, turnOf}
 use Rattle.witness.specs.Bench.{found, BenchRows}

@@ -15,7 +15,7 @@ use Rattle.opcodes.specs.Postbyte.{reservedOf, lengthOf, costOf}
 use Rattle.decode.specs.Decode.{fetchedOf}
 use Rattle.execute16.specs.Registers.{secondRegisters, registered, registersEffect}
 use Rattle.products.specs.Products.{accumulateEffect, productEffect}
-use Rattle.stack.specs.Stack.{interruptEffect}
+use Rattle.frames.specs.Frames.{interruptEffect}
 use Rattle.state.specs.declared.State.{State}
 use Rattle.state.specs.State.{noState, withPc, withClock}
 use Rattle.machine.specs.Names.{numberOf}

@@ -4,7 +4,7 @@ use native.Mathlib.Omega.{arith}
 use mathlib.Core.Bool.{false}
 use borrow.Author.Needs.{needs}
 use Rattle.alu.specs.Alu.{sumOf}
-use Rattle.alu.proofs.Laws.{carry-from}
+use Rattle.results.proofs.Laws.{carry-from}
 use Rattle.alu.proofs.add_16.Statement.{statement}
 use Rattle.alu.proofs.add_16.Tie as tie
 

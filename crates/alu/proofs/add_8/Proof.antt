@@ -3,7 +3,7 @@ use native.Mathlib.Omega.{arith}
 use borrow.Author.Needs.{needs}
 use Rattle.state.specs.Ccr.{weightOf}
 use Rattle.alu.specs.Alu.{sumOf}
-use Rattle.alu.proofs.Laws.{one-at-most, carry-from}
+use Rattle.results.proofs.Laws.{one-at-most, carry-from}
 use Rattle.alu.proofs.add_8.Statement.{statement}
 use Rattle.alu.proofs.add_8.Tie as tie
 

@@ -5,7 +5,7 @@ use mathlib.Core.Bool.{false}
 use mathlib.Core.Path.{refl}
 use borrow.Author.Needs.{needs}
 use Rattle.alu.specs.Alu.{differenceOf}
-use Rattle.alu.proofs.Laws.{borrow-by}
+use Rattle.results.proofs.Laws.{borrow-by}
 use Rattle.alu.proofs.sub_16.Statement.{statement}
 use Rattle.alu.proofs.sub_16.Tie as tie
 

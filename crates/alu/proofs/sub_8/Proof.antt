@@ -3,7 +3,7 @@ use mathlib.Core.Path.{refl}
 use borrow.Author.Needs.{needs}
 use Rattle.state.specs.Ccr.{weightOf}
 use Rattle.alu.specs.Alu.{differenceOf}
-use Rattle.alu.proofs.Laws.{one-at-most, borrow-by}
+use Rattle.results.proofs.Laws.{one-at-most, borrow-by}
 use Rattle.alu.proofs.sub_8.Statement.{statement}
 use Rattle.alu.proofs.sub_8.Tie as tie
 

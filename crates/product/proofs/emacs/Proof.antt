@@ -1,6 +1,6 @@
 use Prim.Native.Nat.{_+_, _%_}
 use native.Mathlib.Omega.{arith}
-use Rattle.alu.proofs.Laws.{carry-from}
+use Rattle.results.proofs.Laws.{carry-from}
 use Rattle.product.specs.Product.{signedProduct}
 use borrow.Author.Needs.{needs}
 use Rattle.product.proofs.emacs.Statement.{statement}

@@ -1,5 +1,5 @@
 use borrow.Author.Needs.{needs}
-use Rattle.alu.proofs.Laws.{top-upper}
+use Rattle.results.proofs.Laws.{top-upper}
 use Rattle.product.proofs.top_32.Statement.{statement}
 use Rattle.product.proofs.top_32.Tie as tie
 

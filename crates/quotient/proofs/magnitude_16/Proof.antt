@@ -1,5 +1,5 @@
 use borrow.Author.Tests.{le-leb, lt-leb}
-use Rattle.alu.proofs.Laws.{top-upper}
+use Rattle.results.proofs.Laws.{top-upper}
 use borrow.Author.Needs.{needs}
 use Rattle.quotient.proofs.magnitude_16.Statement.{statement}
 use Rattle.quotient.proofs.magnitude_16.Tie as tie

@@ -1,7 +1,7 @@
 use Prim.Native.Nat.{_/_}
 use borrow.Author.Needs.{needs}
 use borrow.Author.Tests.{eq-eqb, ne-eqb}
-use Rattle.alu.specs.Alu.{exclusiveOr}
+use Rattle.results.specs.Results.{exclusiveOr}
 use Rattle.quotient.proofs.Laws.{divisor-zero, magnitude-some, magnitude-most, remainder-fits, inside-fits}
 use Rattle.quotient.proofs.signed_division.Statement.{statement}
 use Rattle.quotient.proofs.signed_division.Tie as tie

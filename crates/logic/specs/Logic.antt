@@ -1,0 +1,50 @@
+-- Logic on bytes, bit by bit, from the glossary of source document 002 (section 6.6; its pages bear no number in the scan, so each is
+-- cited by its instruction). The letters are the manual's: X the register, M the operand.
+use Prim.Native.Nat.{ℕ, _-_}
+use mathlib.Core.Bool.{Bool, true, false}
+use lib.Dec.{eqb}
+use lib.Bits.{bitAnd, bitOr, bitXor}
+use Rattle.word.specs.Word.{bitOf}
+use Rattle.state.specs.declared.Flags.{Flags}
+use Rattle.results.specs.declared.Byte.{Byte}
+use Rattle.results.specs.Results.{byteOf, setNZVC, resultCodes}
+
+-- ANDA, ANDB, BITA, BITB
+abbrev pub andByte : Flags → ℕ → ℕ → Byte
+andByte f x m = byteOf (bitAnd x m) (resultCodes 7 f)
+
+-- ORAA, ORAB, BSET
+abbrev pub orByte : Flags → ℕ → ℕ → Byte
+orByte f x m = byteOf (bitOr x m) (resultCodes 7 f)
+
+-- EORA, EORB
+abbrev pub eorByte : Flags → ℕ → ℕ → Byte
+eorByte f x m = byteOf (bitXor x m) (resultCodes 7 f)
+
+-- $FF - (M), each bit the other way
+abbrev pub complement : ℕ → ℕ
+complement m = 255 - m
+
+-- BCLR: (M) and the complement of the mask
+abbrev pub bclrByte : Flags → ℕ → ℕ → Byte
+bclrByte f m mask = byteOf (bitAnd m (complement mask)) (resultCodes 7 f)
+
+-- BRCLR: (M) · (Mask) = 0
+abbrev pub allClear : ℕ → ℕ → Bool
+allClear m mask = eqb (bitAnd m mask) 0
+
+-- BRSET: the complement of (M), and (Mask), = 0
+abbrev pub allSet : ℕ → ℕ → Bool
+allSet m mask = eqb (bitAnd (complement m) mask) 0
+
+-- TST, TSTA, TSTB: (M) - $00; V: 0, C: 0
+abbrev pub tstByte : Flags → ℕ → Byte
+tstByte f m = byteOf m (λ r. setNZVC f (bitOf 7 r) (eqb r 0) false false)
+
+-- CLR, CLRA, CLRB: N: 0, Z: 1, V: 0, C: 0
+abbrev pub clrByte : Flags → Byte
+clrByte f = byteOf 0 (λ r. setNZVC f false true false false)
+
+-- COM, COMA, COMB: V: 0, C: 1
+abbrev pub comByte : Flags → ℕ → Byte
+comByte f m = byteOf (complement m) (λ r. setNZVC f (bitOf 7 r) (eqb r 0) false true)
