@@ -2,9 +2,9 @@
 
 use machine::Machine;
 use machine::Reply;
-use run::Answer;
 use state::Flags;
 use state::State;
+use steps::Answer;
 use table::Record;
 use table::Table;
 use text::Text;

@@ -5,9 +5,9 @@ use mathlib.Core.Bool.{true, false}
 use mathlib.Core.List.{List}
 use lib.Dec.{eqb}
 use borrow.Author.Tests.{eq-eqb, ne-eqb}
-use Rattle.run.specs.declared.Answer.{Answer}
+use Rattle.steps.specs.declared.Answer.{Answer}
 use Rattle.machine.specs.Names.{numberOf}
-use Rattle.run.specs.End.{End, Ends}
+use Rattle.steps.specs.End.{End, Ends}
 use Rattle.packing.specs.Bytes.{bytesOf}
 use Rattle.guide.specs.Doors.{unless, told, Left, Leaves, OneOutcome}
 

@@ -6,7 +6,7 @@ use lib.Dec.{eqb}
 use Rattle.word.specs.Word.{pick}
 use Rattle.machine.specs.Reset.{resetReply, resetOf}
 use Rattle.refusals.specs.Given.{givenIs}
-use Rattle.run.specs.End.{End}
+use Rattle.steps.specs.End.{End}
 use Rattle.run.specs.Step.{stepOf}
 use Rattle.run.specs.Run.{runOf}
 use Rattle.table.specs.Records.{cyclesOf, linesOf}

@@ -1,7 +1,7 @@
 // The machine's doors for programs in other languages, over numbers and lent bytes. Each tests every length that it is lent, and
 // changes nothing where it refuses. docs/GUIDE-ABI.md has the state record, the packed schedule and the numbers.
 use machine::Machine;
-use run::Answer;
+use steps::Answer;
 ghost use mathlib.Core.Path.{_≡_};
 ghost use lib.ListN.{length};
 ghost use Rattle.machine.specs.Names.{numberOf};

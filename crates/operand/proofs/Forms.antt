@@ -7,7 +7,8 @@ use Rattle.word.specs.Word.{pick, bitOf}
 use Rattle.memory.specs.Memory.{byteAt}
 use Rattle.opcodes.specs.Postbyte.{formOf, IDX, IDX1, IDX2, [D:IDX], [IDX2]}
 use Rattle.operand.specs.declared.Place.{Place}
-use Rattle.operand.specs.Indexed.{fivePlace, steppedPlace, nineBits, sixteenBits, throughSixteen, throughD, plainAccumulator, constantPlace, accumulatorPlace, indexedPlace, placeIn, ByItsForm, PlainByItsForm}
+use Rattle.operand.specs.Indexed.{fivePlace, steppedPlace, nineBits, sixteenBits, throughSixteen, throughD}
+use Rattle.operand.specs.Indexed.{plainAccumulator, constantPlace, accumulatorPlace, indexedPlace, placeIn, ByItsForm, PlainByItsForm}
 
 -- the two choices, each for any truth of the bits that they look at
 agree :

@@ -14,10 +14,12 @@ use Rattle.machine.specs.Names.{numberOf, memorySize, recordLimit}
 use Rattle.machine.proofs.Laws.{number-most}
 use Rattle.memory.specs.Memory.{AreBytes}
 use Rattle.refusals.specs.Given.{Given, lineIn}
-use Rattle.run.specs.End.{End, endsHere}
+use Rattle.steps.specs.End.{End, endsHere}
 use Rattle.refusals.specs.Refusals.{refusal, pastLimit, runRefusal}
-use Rattle.run.specs.Step.{turnEnd, stepOf}
-use Rattle.run.specs.Run.{goesOn, runOf, turnAt, nextState, nextMemory}
+use Rattle.steps.specs.Steps.{turnEnd}
+use Rattle.run.specs.Step.{stepOf}
+use Rattle.steps.specs.Steps.{goesOn, turnAt, nextState, nextMemory}
+use Rattle.run.specs.Run.{runOf}
 use Rattle.run.proofs.Refusals.{run-refused}
 use Rattle.run.proofs.OneStep.{costs-one, turn-rests}
 use Rattle.walk.specs.Words.{Words}

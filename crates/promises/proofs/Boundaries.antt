@@ -15,8 +15,7 @@ use Rattle.state.specs.State.{withClock}
 use Rattle.frames.specs.Frames.{frameOf}
 use Rattle.turn.specs.Turn.{turnOf}
 use Rattle.refusals.specs.Given.{Given, lineIn}
-use Rattle.run.specs.Step.{turnState, turnMemory}
-use Rattle.run.specs.Run.{turnAt, nextState, nextMemory}
+use Rattle.steps.specs.Steps.{turnState, turnMemory, turnAt, nextState, nextMemory}
 use Rattle.walk.specs.Words.{Words}
 use Rattle.walk.proofs.Registers.{frame-bytes}
 use Rattle.promises.specs.Steps.{afterSteps}

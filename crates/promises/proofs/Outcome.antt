@@ -1,7 +1,7 @@
 -- The answer of every public operation is determined by its promise. Assumes nothing.
 use mathlib.Core.Path.{sym, _∙_}
 use Rattle.machine.proofs.Laws.{same-reply}
-use Rattle.run.specs.End.{End}
+use Rattle.steps.specs.End.{End}
 use Rattle.promises.specs.Outcome.{OneNumber, OneNew, OneAnswer, OneStep, OneRun, OneRunOverRecords, OneReset}
 
 one-answer : (e : End) → OneAnswer e

@@ -15,13 +15,14 @@ use Rattle.memory.proofs.Laws.{store-keeps}
 use Rattle.machine.specs.Names.{numberOf}
 use Rattle.turn.specs.Turn.{turnOf}
 use Rattle.refusals.specs.Given.{Given, lineIn}
-use Rattle.run.specs.End.{End, endsHere, after}
-use Rattle.run.specs.Step.{turnCost, turnState, turnMemory}
+use Rattle.steps.specs.End.{End, endsHere, after}
+use Rattle.steps.specs.Steps.{turnCost, turnState, turnMemory}
 use Rattle.refusals.specs.Refusals.{runRefusal}
-use Rattle.run.specs.Run.{goesOn, runOf, turnAt, nextState, nextMemory}
+use Rattle.steps.specs.Steps.{goesOn, turnAt, nextState, nextMemory}
+use Rattle.run.specs.Run.{runOf}
 use Rattle.refusals.proofs.Laws.{Free, is-free}
 use Rattle.run.proofs.Refusals.{step-taken, run-taken, run-free}
-use Rattle.run.proofs.Loop.{run-stops, run-spends, run-steps, after-twice, after-none}
+use Rattle.steps.proofs.Loop.{run-stops, run-spends, run-steps, after-twice, after-none}
 use Rattle.run.proofs.OneStep.{costs-one}
 use Rattle.walk.specs.Words.{Words}
 use Rattle.promises.proofs.Words.{every-boundary-has-words}

@@ -22,7 +22,8 @@ use Rattle.requests.specs.Requests.{allowedLine, entryEffect, wakeEffect}
 use Rattle.turn.specs.Turn.{turnIs, turnOf}
 use Rattle.walk.proofs.Bounds.{every-step-costs}
 use Rattle.refusals.specs.Given.{Given, lineIn}
-use Rattle.run.specs.Run.{runOf, turnAt}
+use Rattle.steps.specs.Steps.{turnAt}
+use Rattle.run.specs.Run.{runOf}
 use Rattle.refusals.proofs.Laws.{is-free}
 use Rattle.promises.specs.Steps.{afterSteps, IsOfSteps}
 use Rattle.promises.specs.Warning.{stateAt, memoryAt, StaysUp, FirstFrom, NoStopBefore, Warned, TheWarningIsNeverLate}

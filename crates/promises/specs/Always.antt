@@ -6,7 +6,7 @@ use mathlib.Core.List.{List}
 use Rattle.state.specs.declared.State.{State}
 use Rattle.memory.specs.Memory.{AreBytes}
 use Rattle.refusals.specs.Given.{Given}
-use Rattle.run.specs.End.{endsHere}
+use Rattle.steps.specs.End.{endsHere}
 use Rattle.run.specs.Step.{stepOf}
 use Rattle.refusals.specs.Refusals.{runRefusal}
 use Rattle.run.specs.Run.{runOf}

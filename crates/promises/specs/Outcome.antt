@@ -16,9 +16,9 @@ use Rattle.machine.specs.declared.Machine.{Machine}
 use Rattle.machine.specs.declared.Started.{Started}
 use Rattle.machine.specs.Names.{numberOf}
 use Rattle.machine.specs.Reset.{resetState, resetReply, resetOf}
-use Rattle.run.specs.declared.Answer.{Answer}
+use Rattle.steps.specs.declared.Answer.{Answer}
 use Rattle.refusals.specs.Given.{Given, givenIs}
-use Rattle.run.specs.End.{End, Ends}
+use Rattle.steps.specs.End.{End, Ends}
 use Rattle.run.specs.Step.{stepOf}
 use Rattle.run.specs.Run.{runOf}
 use Rattle.table.specs.declared.Record.{Record}

@@ -6,10 +6,12 @@ use Rattle.state.specs.declared.State.{State}
 use Rattle.machine.specs.Names.{numberOf}
 use Rattle.memory.specs.Memory.{AreBytes}
 use Rattle.refusals.specs.Given.{Given}
-use Rattle.run.specs.End.{End, endsHere, after}
+use Rattle.steps.specs.End.{End, endsHere, after}
 use Rattle.refusals.specs.Refusals.{refusal, runRefusal}
-use Rattle.run.specs.Step.{turnEnd, stepOf}
-use Rattle.run.specs.Run.{turnAt, nextState, nextMemory, runOf}
+use Rattle.steps.specs.Steps.{turnEnd}
+use Rattle.run.specs.Step.{stepOf}
+use Rattle.steps.specs.Steps.{turnAt, nextState, nextMemory}
+use Rattle.run.specs.Run.{runOf}
 use Rattle.walk.specs.Words.{Words}
 
 -- A single step that is not refused is the turn at its boundary: what a run takes as a step is what a single step does. (The step's own

@@ -13,7 +13,8 @@ use Rattle.machine.specs.Reset.{resetOf}
 use Rattle.requests.specs.Requests.{allowedLine}
 use Rattle.refusals.specs.Given.{Given, lineIn}
 use Rattle.refusals.specs.Refusals.{runRefusal}
-use Rattle.run.specs.Run.{runOf, turnAt}
+use Rattle.steps.specs.Steps.{turnAt}
+use Rattle.run.specs.Run.{runOf}
 use Rattle.promises.specs.Steps.{afterSteps, IsOfSteps}
 
 -- the state and the memory at boundary n of a run that starts from reset; boundary 0 is where it starts

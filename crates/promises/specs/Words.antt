@@ -6,7 +6,7 @@ use Rattle.memory.specs.Memory.{bytesStored, IsWhole, AreBytes}
 use Rattle.state.specs.declared.State.{State}
 use Rattle.effect.specs.declared.Effect.{Effect}
 use Rattle.turn.specs.Turn.{turnOf}
-use Rattle.run.specs.Step.{turnState, turnMemory}
+use Rattle.steps.specs.Steps.{turnState, turnMemory}
 use Rattle.walk.specs.Words.{Words}
 
 -- an effect leaves bytes and words in the registers, and stores bytes from an address on, of which nothing is cut off

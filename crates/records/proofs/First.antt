@@ -14,8 +14,9 @@ use Rattle.state.specs.declared.State.{State}
 use Rattle.schedule.specs.Schedule.{rising, accepted}
 use Rattle.machine.specs.Names.{memorySize, recordLimit}
 use Rattle.refusals.specs.Given.{givenIs}
-use Rattle.run.specs.End.{End, endsHere}
-use Rattle.run.specs.Run.{goesOn, runOf}
+use Rattle.steps.specs.End.{End, endsHere}
+use Rattle.steps.specs.Steps.{goesOn}
+use Rattle.run.specs.Run.{runOf}
 use Rattle.table.specs.declared.Record.{Record}
 use Rattle.table.specs.Records.{cyclesOf, linesOf, room, tableCycles, tableLines, noRecords, gathered}
 use Rattle.table.proofs.Laws.{holds-first}

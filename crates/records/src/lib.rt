@@ -1,12 +1,12 @@
 // The run over a lent slice of records: they are gathered into two arrays of numbers, over which the machine runs.
 use machine::Machine;
-use run::Answer;
+use steps::Answer;
 use table::Record;
 use table::Table;
 ghost use mathlib.Core.Path.{_≡_};
 ghost use Prim.Native.Nat.{_≤_};
 ghost use Rattle.refusals.specs.Given.{givenIs};
-ghost use Rattle.run.specs.End.{Ends};
+ghost use Rattle.steps.specs.End.{Ends};
 ghost use Rattle.run.specs.Run.{runOf};
 ghost use Rattle.table.specs.Records.{cyclesOf, linesOf, room, tableCycles, tableLines};
 

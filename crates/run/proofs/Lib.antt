@@ -1,3 +1,2 @@
 pub mod Refusals
-pub mod Loop
 pub mod OneStep

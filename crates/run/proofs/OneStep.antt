@@ -18,11 +18,10 @@ use Rattle.turn.specs.Turn.{turnOf}
 use Rattle.walk.proofs.Turns.{turn-idle}
 use Rattle.walk.proofs.Bounds.{every-step-costs}
 use Rattle.refusals.specs.Given.{Given, givenIs}
-use Rattle.run.specs.End.{endIs, endsHere, after}
+use Rattle.steps.specs.End.{endIs, endsHere, after}
 use Rattle.effect.specs.Effect.{acted}
-use Rattle.run.specs.Step.{turnEnd, turnState, turnMemory, turnCost}
-use Rattle.run.specs.Run.{turnAt, goesOn}
-use Rattle.run.proofs.Loop.{run-stops, run-steps, run-over}
+use Rattle.steps.specs.Steps.{turnEnd, turnState, turnMemory, turnCost, turnAt, goesOn}
+use Rattle.steps.proofs.Loop.{run-stops, run-steps, run-over}
 
 -- a step that is done costs at least one cycle
 pub costs-one :

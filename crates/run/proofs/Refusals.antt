@@ -7,9 +7,11 @@ use Rattle.state.specs.declared.State.{State}
 use Rattle.refusals.specs.Given.{Given}
 use Rattle.refusals.specs.Refusals.{refusal, runRefusal}
 use Rattle.refusals.proofs.Laws.{Free, free-enough}
-use Rattle.run.specs.End.{endsHere}
-use Rattle.run.specs.Step.{turnEnd, stepOf}
-use Rattle.run.specs.Run.{goesOn, runOf}
+use Rattle.steps.specs.End.{endsHere}
+use Rattle.steps.specs.Steps.{turnEnd}
+use Rattle.run.specs.Step.{stepOf}
+use Rattle.steps.specs.Steps.{goesOn}
+use Rattle.run.specs.Run.{runOf}
 
 -- a step
 pub step-refused : (s : State) (m : List ℕ) (line : ℕ) → (refusal s m ≡ 0 → ⊥) → stepOf s m line ≡ endsHere (refusal s m) s m

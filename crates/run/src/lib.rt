@@ -1,88 +1,15 @@
-// One step under a line byte, and a run with a schedule and a budget: one loop. What is lent is tested first (`refusals`), and refused
-// with document 01's number.
+// One step under a line byte, and a run with a schedule and a budget: what is lent is tested first (`refusals`), and refused with
+// document 01's number; then both are the one loop (`steps`).
 use machine::Machine;
-use machine::Reply;
-use state::State;
+use steps::Answer;
 ghost use mathlib.Core.Path.{_≡_};
-ghost use mathlib.Core.Bool.{true};
-ghost use Prim.Native.Nat.{_+_, _≤_};
-ghost use lib.ListN.{length};
-ghost use Rattle.opcodes.specs.Grid.{grid as gridOf};
-ghost use Rattle.opcodes.specs.Map.{opcodeMap};
-ghost use Rattle.schedule.specs.Schedule.{rising};
-ghost use Rattle.machine.specs.Names.{clockLimit};
 ghost use Rattle.refusals.specs.Given.{givenIs};
-ghost use Rattle.run.specs.End.{Ends};
+ghost use Rattle.steps.specs.End.{Ends};
 ghost use Rattle.run.specs.Step.{stepOf};
-ghost use Rattle.run.specs.Run.{goesOn, runOf};
-
-// What a step or a run answers: the machine after it, and the cycles that it used.
-pub struct Answer {
-    pub reply: Reply,
-    pub machine: Machine,
-    pub cycles: u32,
-}
-
-fn answered(reply: Reply, state: State, cycles: u32) -> Answer
-    ensures { λ r. ⌜ (r .reply ≡ reply) × ((r .machine .state ≡ state) × (r .cycles ≡ cycles)) ⌝ }
-{
-    let machine = Machine::of(state);
-    Answer {
-        reply: reply,
-        machine: machine,
-        cycles: cycles,
-    }
-}
+ghost use Rattle.run.specs.Run.{runOf};
 
 // No step costs more, so that this budget is enough for any one.
 const ONE_STEP: u32 = 13;
-
-// So many boundaries, or until a step costs more than is left or the machine stops. What was lent has been tested.
-fn go(
-    map: &[u32; 512],
-    grid: &[[u8; 8]; 18],
-    start: State,
-    m: &mut [u8],
-    cycles: &[u32],
-    lines: &[u8],
-    budget: u32,
-    boundaries: u32,
-) -> Answer
-    requires { ⌜ now map ≡ opcodeMap ⌝ }
-    requires { ⌜ now grid ≡ gridOf ⌝ }
-    requires { ⌜ length (now m) ≡ 65536 ⌝ }
-    requires { ⌜ length (now cycles) ≡ length (now lines) ⌝ }
-    requires { ⌜ rising (now cycles) ≡ true ⌝ }
-    requires { ⌜ start .clock + budget ≤ clockLimit ⌝ }
-    ensures { λ r. ⌜ Ends (goesOn boundaries (givenIs (now (cycles .entry)) (now (lines .entry))) start (now (m .entry)) budget) r (now (m .exit)) ⌝ }
-{
-    let mut s = start;
-    let mut left = budget;
-    let mut used: u32 = 0;
-    let mut place: usize = 0;
-    let mut more = boundaries;
-    loop {
-        if more == 0 {
-            break answered(Reply::Done, s, used);
-        }
-        place = schedule::passed(cycles, place, s.clock);
-        let line = schedule::line_before(lines, place);
-        let next = turn::turn_at(map, grid, s, &m[..], line);
-        let reply = next.reply;
-        if reply.number() != 0 {
-            break answered(reply, s, used);
-        }
-        let done = next.effect;
-        let cost = done.cost as u32;
-        if left < cost {
-            break answered(Reply::Done, s, used);
-        }
-        s = effect::act(s, m, done);
-        left = left - cost;
-        used = used + cost;
-        more = more - 1;
-    }
-}
 
 // One step under the line byte `line`: the loop with one boundary. Refused or stopped, it changes no register and no byte.
 pub fn step(machine: Machine, m: &mut [u8], line: u8) -> Answer
@@ -91,13 +18,13 @@ pub fn step(machine: Machine, m: &mut [u8], line: u8) -> Answer
     let s = machine.state;
     let refused = refusals::step_refusal(s, &m[..]);
     if refused.number() != 0 {
-        return answered(refused, s, 0);
+        return steps::answered(refused, s, 0);
     }
     let map = opcodes::map();
     let grid = opcodes::grid();
     let cycles: [u32; 1] = [0];
     let lines: [u8; 1] = [line];
-    go(&map, &grid, s, m, &cycles[..], &lines[..], ONE_STEP, 1)
+    steps::go(&map, &grid, s, m, &cycles[..], &lines[..], ONE_STEP, 1)
 }
 
 // Steps, each under the line byte in force at its boundary, until one costs more than is left of the budget or the machine stops.
@@ -108,9 +35,9 @@ pub fn run(machine: Machine, m: &mut [u8], cycles: &[u32], lines: &[u8], budget:
     let s = machine.state;
     let refused = refusals::run_refusal(s, &m[..], cycles, lines, budget);
     if refused.number() != 0 {
-        return answered(refused, s, 0);
+        return steps::answered(refused, s, 0);
     }
     let map = opcodes::map();
     let grid = opcodes::grid();
-    go(&map, &grid, s, m, cycles, lines, budget, budget + 1)
+    steps::go(&map, &grid, s, m, cycles, lines, budget, budget + 1)
 }

@@ -8,7 +8,7 @@ use Rattle.state.specs.Ccr.{ccrOf}
 use Rattle.machine.specs.Names.{memorySize}
 use Rattle.machine.specs.Reset.{resetOf}
 use Rattle.refusals.specs.Given.{givenIs}
-use Rattle.run.specs.End.{End}
+use Rattle.steps.specs.End.{End}
 use Rattle.run.specs.Run.{runOf}
 use Rattle.text.specs.Text.{ascii, numeral, hexByte, hexWord}
 

@@ -22,7 +22,7 @@ use Rattle.machine.specs.Names.{numberOf}
 use Rattle.machine.specs.Reset.{resetOf}
 use Rattle.refusals.specs.Given.{Given, givenIs}
 use Rattle.refusals.specs.Refusals.{runRefusal}
-use Rattle.run.specs.Run.{turnAt, nextState, nextMemory}
+use Rattle.steps.specs.Steps.{turnAt, nextState, nextMemory}
 use Rattle.requests.specs.Requests.{allowedLine, entryEffect}
 use Rattle.turn.specs.Turn.{executed, instructed, turnOf}
 use Rattle.promises.specs.Steps.{afterSteps}

@@ -7,7 +7,7 @@ use Rattle.table.specs.declared.Table.{Table}
 use Rattle.table.specs.Records.{tableCycles, tableLines}
 use Rattle.table.proofs.Laws.{holds-first}
 use Rattle.records.proofs.First.{same-run}
-use Rattle.run.proofs.Loop.{ends-same}
+use Rattle.steps.proofs.Loop.{ends-same}
 use Rattle.packing.specs.Bytes.{stateOf, recordsOf}
 use Rattle.lent.proofs.Laws.{none-first, accepted}
 use Rattle.guide.proofs.Laws.{door-refuses, door-opens, told-leaves}

@@ -2,7 +2,7 @@ use borrow.Author.Needs.{needs}
 use mathlib.Core.Path.{sym, _∙_, ap}
 use Rattle.state.specs.declared.State.{State}
 use Rattle.run.specs.Step.{stepOf}
-use Rattle.run.proofs.Loop.{ends-same}
+use Rattle.steps.proofs.Loop.{ends-same}
 use Rattle.lent.proofs.Laws.{accepted}
 use Rattle.guide.proofs.Laws.{door-refuses, door-opens, told-leaves}
 use Rattle.guide.proofs.cpu12_step.Statement.{statement}

@@ -48,12 +48,12 @@ use denote.Triple.Clauses.{ensured, lasts}
 use Rattle.machine.specs.declared.Machine.{Machine}
 use Rattle.machine.proofs.Machine as S
 use Rattle.machine.proofs.Machine.Laws as S′
-use Rattle.run.specs.declared.Answer.{Answer}
+use Rattle.steps.specs.declared.Answer.{Answer}
 use Rattle.refusals.specs.Given.{givenIs}
-use Rattle.run.specs.End.{End, Ends}
+use Rattle.steps.specs.End.{End, Ends}
 use Rattle.run.specs.Run.{runOf}
-use Rattle.run.proofs.Answer as D
-use Rattle.run.proofs.Answer.Laws as D′
+use Rattle.steps.proofs.Answer as D
+use Rattle.steps.proofs.Answer.Laws as D′
 use Rattle.table.specs.Records.{cyclesOf, linesOf, room, tableCycles, tableLines, noRecords, gathered}
 use Rattle.table.specs.declared.Record.{Record}
 use Rattle.table.specs.declared.Table.{Table}

@@ -7,10 +7,10 @@ use Rattle.schedule.proofs.Laws.{accepted-same, accepted-rising}
 use Rattle.machine.specs.Names.{numberOf, recordLimit}
 use Rattle.refusals.specs.Given.{givenIs}
 use Rattle.refusals.specs.Refusals.{runRefusal}
-use Rattle.run.specs.Run.{goesOn}
+use Rattle.steps.specs.Steps.{goesOn}
 use Rattle.refusals.proofs.Laws.{Free, is-free}
 use Rattle.run.proofs.Refusals.{run-refused, run-taken}
-use Rattle.run.proofs.Loop.{ends-as, ends-same}
+use Rattle.steps.proofs.Loop.{ends-as, ends-same}
 use Rattle.run.proofs.run.Statement.{statement}
 use Rattle.run.proofs.run.Tie as tie
 

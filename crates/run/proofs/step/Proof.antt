@@ -6,7 +6,7 @@ use Rattle.machine.specs.Names.{numberOf}
 use Rattle.refusals.specs.Refusals.{refusal}
 use Rattle.refusals.proofs.Laws.{StepFree, is-step-free}
 use Rattle.run.proofs.Refusals.{step-refused, step-taken}
-use Rattle.run.proofs.Loop.{ends-as, ends-same}
+use Rattle.steps.proofs.Loop.{ends-as, ends-same}
 use Rattle.run.proofs.OneStep.{one-step}
 use Rattle.run.proofs.step.Statement.{statement}
 use Rattle.run.proofs.step.Tie as tie

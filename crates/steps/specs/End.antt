@@ -4,7 +4,7 @@ use mathlib.Core.Path.{_≡_}
 use mathlib.Core.List.{List}
 use Rattle.state.specs.declared.State.{State}
 use Rattle.machine.specs.Names.{numberOf}
-use Rattle.run.specs.declared.Answer.{Answer}
+use Rattle.steps.specs.declared.Answer.{Answer}
 
 -- the reply's number, the state, the memory, and the cycles used
 pub record End : Type 0 where

@@ -3,10 +3,10 @@ use mathlib.Core.Path.{_≡_, sym, _∙_, ap}
 use borrow.Author.Needs.{needs}
 use Rattle.turn.specs.Turn.{turnOf}
 use Rattle.refusals.specs.Given.{givenIs}
-use Rattle.run.specs.Run.{turnAt}
-use Rattle.run.proofs.Loop.{Going, begun, in-force-here, turned, ends-over, ends-stopped, ends-spent}
-use Rattle.run.proofs.go.Statement.{statement}
-use Rattle.run.proofs.go.Tie as tie
+use Rattle.steps.specs.Steps.{turnAt}
+use Rattle.steps.proofs.Loop.{Going, begun, in-force-here, turned, ends-over, ends-stopped, ends-spent}
+use Rattle.steps.proofs.go.Statement.{statement}
+use Rattle.steps.proofs.go.Tie as tie
 
 abbrev Inv-loop : tie.InvT-loop
 Inv-loop map grid m₀ cycles lines budget boundaries s₀ left₀ used₀ place₀ more₀ m s left used place more =

@@ -14,11 +14,11 @@ use Rattle.memory.proofs.Laws.{store-keeps}
 use Rattle.machine.specs.declared.Reply.the-variants.{Done}
 use Rattle.machine.specs.Names.{numberOf, clockLimit}
 use Rattle.turn.specs.declared.Turn.{Turn}
-use Rattle.run.specs.declared.Answer.{Answer}
+use Rattle.steps.specs.declared.Answer.{Answer}
 use Rattle.refusals.specs.Given.{Given, lineIn}
-use Rattle.run.specs.End.{End, endIs, endsHere, after, Ends}
+use Rattle.steps.specs.End.{End, endIs, endsHere, after, Ends}
 use Rattle.effect.specs.Effect.{acted}
-use Rattle.run.specs.Run.{turnAt, nextState, nextMemory, goesOn}
+use Rattle.steps.specs.Steps.{turnAt, nextState, nextMemory, goesOn}
 
 -- the three ways on from a boundary
 pub run-stops :
