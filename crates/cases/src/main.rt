@@ -34,7 +34,7 @@ struct Listed {
 }
 
 // Whether the input goes on, and how many bytes of an unfinished line are held.
-struct Turned {
+struct Reading {
     more: bool,
     held: usize,
 }
@@ -419,14 +419,14 @@ fn take(chunk: &[u8], line: &mut [u8], held: usize, memory: &mut [u8]) -> usize
     n
 }
 
-fn turn(line: &mut [u8], held: usize, memory: &mut [u8]) -> Turned
+fn read_more(line: &mut [u8], held: usize, memory: &mut [u8]) -> Reading
     requires { ⌜ length (now memory) ≤ 65537 ⌝ }
 {
     let mut chunk = io::large_buffer();
     let got = libc::read(0, &mut chunk);
     let n = io::count(got, &chunk);
     let left = take(&chunk[..n], line, held, memory);
-    Turned {
+    Reading {
         more: got > 0,
         held: left,
     }
@@ -438,14 +438,14 @@ fn drain(line: &mut [u8], memory: &mut [u8]) -> usize
     requires { ⌜ length (now memory) ≤ 65537 ⌝ }
 {
     let mut held = 0;
-    let mut turns = u64::MAX;
-    while turns > 0 {
-        let turned = turn(line, held, memory);
-        held = turned.held;
-        if !turned.more {
+    let mut reads = u64::MAX;
+    while reads > 0 {
+        let reading = read_more(line, held, memory);
+        held = reading.held;
+        if !reading.more {
             return held;
         }
-        turns -= 1;
+        reads -= 1;
     }
     held
 }

@@ -18,25 +18,24 @@ use Rattle.walk.specs.Walk.{Before, Fits, Gives}
 use Rattle.walk.specs.Walk.Gives.{stores, untaken, waits}
 use Rattle.walk.specs.Turns.{Ways}
 use Rattle.walk.specs.Turns.Ways.{wakes, enters, idles, stops, reserves, runs}
-use Rattle.walk.proofs.Registers.{Below, word-at, frame-whole, set-sp, set-pc, set-flags, set-waiting, set-clock}
+use Rattle.walk.proofs.Registers.{Below, word-at, set-sp, set-pc, set-flags, set-waiting, set-clock}
 use Rattle.walk.proofs.Settings.{held}
 use Rattle.walk.proofs.Turns.{every-turn-goes, fits-at-pc}
 use Rattle.promises.specs.Words.{LeavesWords, EveryStepKeepsWords, EveryBoundaryHasWords}
 
 quiet-leaves : {s : State} {cost : ℕ} → Words s → LeavesWords (quiet s cost)
-quiet-leaves w = record { registers = w; address = omega arith; bytes = stored-bytes noStore (omega arith); whole = omega arith }
+quiet-leaves w = record { registers = w; address = omega arith; bytes = stored-bytes noStore (omega arith) }
 
 -- an instruction leaves what it has set, and stores what it says
 instruction-leaves : {b : Before} {e : Effect} → Fits b → Gives b e → LeavesWords e
 unfolding waitEffect
-instruction-leaves k (stores w run) = record { registers = held w k; address = run .address k; bytes = run .bytes k; whole = run .whole k }
+instruction-leaves k (stores w run) = record { registers = held w k; address = run .address k; bytes = run .bytes k }
 instruction-leaves k (untaken w is) = quiet-leaves (held w k)
 instruction-leaves k (waits w run) =
     record {
       registers = set-waiting (set-sp (held w k) (omega arith));
       address = run .address k;
       bytes = run .bytes k;
-      whole = run .whole k;
     }
 
 turn-leaves : {s : State} {m : List ℕ} {line : ℕ} {t : Turn} → Words s → Below 256 m → Ways s m line t → LeavesWords (t .effect)
@@ -47,7 +46,6 @@ turn-leaves {s} w bytes (enters up awake) =
       registers = set-flags (set-pc (set-sp w (omega arith)) (word-at bytes _));
       address = omega arith;
       bytes = stored-bytes (frameStore s) (ccr-below (s .flags));
-      whole = frame-whole w;
     }
 turn-leaves w bytes (idles none waiting) = quiet-leaves w
 turn-leaves w bytes (stops none awake) = quiet-leaves w

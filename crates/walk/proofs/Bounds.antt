@@ -7,7 +7,7 @@ use mathlib.Core.List.{List}
 use lib.Dec.{eqb}
 use borrow.Author.Tests.{eq-eqb, ne-eqb}
 use Rattle.word.specs.Word.{pick, plusW}
-use Rattle.memory.specs.Memory.{byteAt, AreBytes}
+use Rattle.memory.specs.Memory.{byteAt, AreBytes, IsWhole}
 use Rattle.memory.proofs.Laws.{stored-short}
 use Rattle.state.specs.declared.State.{State}
 use Rattle.opcodes.specs.Kind.{groupOf, SHORT-BRANCHES}
@@ -24,13 +24,15 @@ use Rattle.turn.specs.declared.Turn.{Turn}
 use Rattle.machine.specs.Names.{numberOf}
 use Rattle.requests.specs.Requests.{entryEffect, wakeEffect}
 use Rattle.turn.specs.Turn.{turnOf}
-use Rattle.walk.specs.Bounds.{EveryStepCosts, EveryStoreIsShort}
-use Rattle.walk.specs.Walk.{IsBranch, Gives}
+use Rattle.walk.specs.Bounds.{EveryStepCosts, EveryStoreIsShort, EveryStoreIsWhole}
+use Rattle.walk.specs.Words.{Words}
+use Rattle.walk.specs.Walk.{Before, Fits, IsBranch, Gives}
 use Rattle.walk.specs.Walk.IsBranch.{short, long}
 use Rattle.walk.specs.Walk.Gives.{stores, untaken, waits}
 use Rattle.walk.specs.Turns.{instructionAt, Runs, atPc, Ways}
 use Rattle.walk.specs.Turns.Ways.{wakes, enters, idles, stops, reserves, runs}
-use Rattle.walk.proofs.Turns.{every-turn-goes}
+use Rattle.walk.proofs.Registers.{frame-whole}
+use Rattle.walk.proofs.Turns.{every-turn-goes, fits-at-pc}
 
 -- the number of the cell at PC
 abbrev numberAt : List ℕ → ℕ → ℕ
@@ -111,3 +113,22 @@ every-step-costs s m line bytes done =
 
 pub every-store-is-short : EveryStoreIsShort
 every-store-is-short s m line bytes = stored-short (turnOf s m line .effect .store)
+
+-- an instruction stores what it says, and no store is whole
+instruction-whole : {b : Before} {e : Effect} → Fits b → Gives b e → IsWhole (e .store)
+unfolding waitEffect
+instruction-whole k (stores w run) = run .whole k
+instruction-whole k (untaken w is) = omega arith
+instruction-whole k (waits w run) = run .whole k
+
+turn-whole : {s : State} {m : List ℕ} {line : ℕ} {t : Turn} → Words s → AreBytes m → Ways s m line t → IsWhole (t .effect .store)
+unfolding wakeEffect entryEffect interruptEffect
+turn-whole w bytes (wakes up waiting) = omega arith
+turn-whole w bytes (enters up awake) = frame-whole w
+turn-whole w bytes (idles none waiting) = omega arith
+turn-whole w bytes (stops none awake) = omega arith
+turn-whole w bytes (reserves none awake) = omega arith
+turn-whole w bytes (runs none awake there gives) = instruction-whole (fits-at-pc w (record { at = bytes })) gives
+
+pub every-store-is-whole : EveryStoreIsWhole
+every-store-is-whole s m line w bytes = turn-whole w bytes (every-turn-goes s m line)

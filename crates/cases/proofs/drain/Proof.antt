@@ -5,10 +5,10 @@ use Rattle.cases.proofs.drain.Statement.{statement}
 use Rattle.cases.proofs.drain.Tie as tie
 
 abbrev Inv-loop : tie.InvT-loop
-Inv-loop line₀ memory₀ held₀ turns₀ line memory held turns = (length line ≡ length line₀) × (length memory ≡ length memory₀)
+Inv-loop line₀ memory₀ held₀ reads₀ line memory held reads = (length line ≡ length line₀) × (length memory ≡ length memory₀)
 
 abbrev μ-loop : tie.MeasureT-loop
-μ-loop line₀ memory₀ held₀ turns₀ line memory held turns = turns
+μ-loop line₀ memory₀ held₀ reads₀ line memory held reads = reads
 
 pub drain-spec : {M : Type 1} → statement M
 drain-spec =
