@@ -1,17 +1,18 @@
 -- What stands at an address: an instruction with its length and cost, an encoding that stops the machine, or a reserved postbyte
 -- (document 01, "Numbered replies", 4 and 5; "Steps and cycles").
-use Prim.Native.Nat.{ℕ}
+use Prim.Native.Nat.{ℕ, _<_}
 use mathlib.Core.Path.{_≡_}
-use mathlib.Core.Bool.{Bool, _&&_, _||_}
+use mathlib.Core.Bool.{Bool, true, _&&_, _||_}
 use mathlib.Core.List.{List}
 use lib.Dec.{eqb}
 use Rattle.word.specs.Word.{pick, plusW}
 use Rattle.memory.specs.Memory.{byteAt}
 use Rattle.opcodes.specs.declared.Cell.{Cell}
-use Rattle.opcodes.specs.Mode.{ID-ID}
+use Rattle.opcodes.specs.Kind.{groupOf, MOVES}
+use Rattle.opcodes.specs.Mode.{ID, ID-ID}
 use Rattle.opcodes.specs.Map.{cellOf, cellNumber}
-use Rattle.opcodes.specs.Postbyte.{formOf, reservedOf, lengthIn, costOf, untakenOf}
-use Rattle.opcodes.specs.Rules.{stopsOf}
+use Rattle.opcodes.specs.Postbyte.{IDX, formOf, reservedOf, lengthIn, costOf, untakenOf}
+use Rattle.opcodes.specs.Rules.{stopsOf, movesMode}
 use Rattle.decode.specs.declared.Opcode.{Opcode}
 use Rattle.decode.specs.declared.Decoded.{Decoded}
 use Rattle.decode.specs.declared.Fetched.{Fetched}
@@ -69,11 +70,15 @@ fetchedOf m pc =
     (pick (reservedAt m (cellAt m pc) (afterOpcode m pc)) Reserved
     (Instruction (decodedOf m pc (cellAt m pc) (afterOpcode m pc))))
 
--- What a decoded instruction has read is what stands in the memory: its postbyte, and the form that this names. Every instruction that
--- is fetched is so (`FetchedFaithfully`, proved under the same name in proofs/Laws.antt).
+-- What a decoded instruction has read is what stands in the memory: its postbyte, and the form that this names. A move has two places, and
+-- its indexed postbytes have the form IDX, since any other is reserved there. Every instruction that is fetched is so
+-- (`FetchedFaithfully`, proved under the same name in proofs/Laws.antt).
 pub record Faithful (m : List ℕ) (d : Decoded) : Type 0 where
   pub postbyte : d .postbyte ≡ byteAt m (d .at)
   pub form : d .form ≡ formOf (d .postbyte)
+  pub moves : groupOf (d .kind) ≡ MOVES → movesMode (d .mode) ≡ true
+  pub first : ID < d .mode → formOf (byteAt m (d .at)) ≡ IDX
+  pub second : d .mode ≡ ID-ID → formOf (byteAt m (plusW (d .at) 1)) ≡ IDX
 
 abbrev pub FetchedFaithfully : Type 0
 FetchedFaithfully = (m : List ℕ) (pc : ℕ) (d : Decoded) → fetchedOf m pc ≡ Instruction d → Faithful m d

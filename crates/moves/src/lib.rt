@@ -10,6 +10,7 @@ ghost use mathlib.Core.Path.{_≡_};
 ghost use mathlib.Core.Bool.{true};
 ghost use lib.ListN.{length};
 ghost use Rattle.word.specs.Word.{pick};
+ghost use Rattle.opcodes.specs.Rules.{movesMode};
 ghost use Rattle.decode.specs.Decode.{Faithful};
 ghost use Rattle.logic.specs.Logic.{allClear, allSet, orByte, bclrByte};
 ghost use Rattle.moves.specs.Addresses.{addressed};
@@ -85,6 +86,7 @@ pub fn bits(s: State, m: &[u8], kind: u16, a: u16, cost: u8) -> Effect
 fn move_byte(s: State, m: &[u8], d: Decoded) -> Effect
     requires { ⌜ length (now m) ≡ 65536 ⌝ }
     requires { ⌜ Faithful (now m) d ⌝ }
+    requires { ⌜ movesMode (d .mode) ≡ true ⌝ }
     ensures { λ r. ⌜ r ≡ byteMoveEffect s (now (m .entry)) d ⌝ }
 {
     let route = routes::route_of(s, m, d, false);
@@ -99,6 +101,7 @@ fn move_byte(s: State, m: &[u8], d: Decoded) -> Effect
 fn move_word(s: State, m: &[u8], d: Decoded) -> Effect
     requires { ⌜ length (now m) ≡ 65536 ⌝ }
     requires { ⌜ Faithful (now m) d ⌝ }
+    requires { ⌜ movesMode (d .mode) ≡ true ⌝ }
     ensures { λ r. ⌜ r ≡ wordMoveEffect s (now (m .entry)) d ⌝ }
 {
     let route = routes::route_of(s, m, d, true);
@@ -114,6 +117,7 @@ fn move_word(s: State, m: &[u8], d: Decoded) -> Effect
 pub fn moves(s: State, m: &[u8], d: Decoded) -> Effect
     requires { ⌜ length (now m) ≡ 65536 ⌝ }
     requires { ⌜ Faithful (now m) d ⌝ }
+    requires { ⌜ movesMode (d .mode) ≡ true ⌝ }
     ensures { λ r. ⌜ r ≡ moveEffect s (now (m .entry)) d ⌝ }
 {
     if d.kind == kind::MOVB {

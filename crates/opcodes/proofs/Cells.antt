@@ -1,22 +1,22 @@
 -- The laws of the table, each by one test over all 512 cells. Assumes nothing.
-use Prim.Native.Nat.{ℕ, _+_, _*_, _/_, _%_, _<_, _≤_}
-use mathlib.Core.Path.{_≡_, refl}
+use Prim.Native.Nat.{ℕ, _+_, _-_, _*_, _/_, _%_, _<_, _≤_}
+use mathlib.Core.Path.{_≡_, refl, sym}
 use mathlib.Core.Bool.{Bool, true, false, _&&_, not}
 use mathlib.Core.List.{List, [], _∷_}
 use native.Mathlib.Omega.{arith}
 use lib.Dec.{T, leb, ltb, eqb, eqb→eq, leb→le}
-use borrow.Author.Tests.{lt-ltb}
+use borrow.Author.Tests.{eq-eqb, lt-ltb, le-ltb}
 use lib.ListN.{length, getD, List·getD-eq-default}
 use native.Mathlib.Decide.{decLt}
 use Rattle.word.specs.Word.{pick}
 use Rattle.word.proofs.Table.{at-entry, at-number, everyBelow, all, holds, same, same-is}
 use Rattle.opcodes.specs.declared.Cell.{Cell}
-use Rattle.opcodes.specs.Kind.{TRAP, PAGE2, TFR/EXG, LOOP}
+use Rattle.opcodes.specs.Kind.{TRAP, PAGE2, TFR/EXG, LOOP, groupOf, MOVES}
 use Rattle.opcodes.specs.Mode.{ID}
 use Rattle.opcodes.specs.Grid.{families, familyOf, grid, gridAt}
-use Rattle.opcodes.specs.Map.{pageOne, pageTwo, cellOf, cellNumber, opcodeMap}
+use Rattle.opcodes.specs.Map.{pageOne, pageTwo, cellIs, cellIn, cellOf, cellNumber, opcodeMap}
 use Rattle.opcodes.specs.Postbyte.{IDX, formOf, extensionOf, indexedOf, formReserved, reservedOf, lengthIn, lengthOf, costIn, costOf, untakenOf}
-use Rattle.opcodes.specs.Rules.{stopsOf, stopCell, trapCell, prebyteCell, runs, regular, column, EveryCell, EveryInstruction}
+use Rattle.opcodes.specs.Rules.{stopsOf, stopCell, trapCell, prebyteCell, runs, regular, column, movesMode, EveryCell, EveryInstruction, MovesHaveTwoPlaces, MovesArePlain}
 use Rattle.opcodes.proofs.Postbytes.{one-of-five}
 
 -- a cell from its number
@@ -75,6 +75,7 @@ rules k =
     ∷ leb (c .length) 6
     ∷ leb (c .cost) 13
     ∷ pick (regular c) (eqb (c .cost) (gridAt (c .family) (column c))) true
+    ∷ pick (eqb (groupOf (c .kind)) MOVES) (movesMode (c .mode)) true
     ∷ []
 
 -- the one test over the whole table
@@ -114,7 +115,7 @@ bounds k j =
     ∷ asked k j (leb 1 (lengthIn c j))
     ∷ asked k j (leb (lengthIn c j) 6)
     ∷ pick (indexedOf c) (not (eqb (c .kind) TFR/EXG) && not (eqb (c .kind) LOOP)) true
-    ∷ asked k j (pick (ltb ID (c .mode)) (eqb j IDX) true)
+    ∷ pick (missing c j) true (pick (ltb ID (c .mode)) (eqb j IDX) true)
     ∷ []
 
 -- the one test over every cell in every form
@@ -135,21 +136,21 @@ form-alone true false true t l f h r = absurd h
 form-alone true true b t l f h r = absurd h
 
 -- a postbyte that is not reserved has a form that the cell has
-not-missing : (k postbyte : ℕ) → k < 512 → postbyte < 256 → reservedOf (cellOf k) postbyte ≡ false → missing (cellOf k) (formOf postbyte) ≡ false
+not-missing : (k postbyte : ℕ) → k < 512 → reservedOf (cellOf k) postbyte ≡ false → missing (cellOf k) (formOf postbyte) ≡ false
 unfolding missing reservedOf bounds
-not-missing k postbyte h i r =
+not-missing k postbyte h r =
     let c = cellOf k in
     let j = formOf postbyte in
     form-alone (indexedOf c) (eqb (c .kind) TFR/EXG) (eqb (c .kind) LOOP) _ _ (formReserved c postbyte)
-    (holds (bounds k j) (bounded k j h (one-of-five postbyte i)) 6)
+    (holds (bounds k j) (bounded k j h (one-of-five postbyte)) 6)
     r
 
 pub every-instruction : EveryInstruction
 unfolding bounds costOf lengthOf
 every-instruction k p h i r n =
     let j = formOf p in
-    let pass = holds (bounds k j) (bounded k j h (one-of-five p i)) in
-    let m = not-missing k p h i n in
+    let pass = holds (bounds k j) (bounded k j h (one-of-five p)) in
+    let m = not-missing k p h n in
     record {
       cost-low = leb→le 1 _ (said k j _ r m (pass 0));
       cost-high = leb→le _ 13 (said k j _ r m (pass 1));
@@ -157,5 +158,34 @@ every-instruction k p h i r n =
       untaken-high = leb→le _ 13 (said k j _ r m (pass 3));
       length-low = leb→le 1 _ (said k j _ r m (pass 4));
       length-high = leb→le _ 6 (said k j _ r m (pass 5));
-      moved = λ past. eqb→eq _ _ (rw (lt-ltb _ _ past) at (said k j _ r m (pass 7)));
     }
+
+-- past the last cell there is none
+past-page : (opcode : ℕ) → 256 ≤ opcode → cellIn pageTwo opcode ≡ cellIs 0 0 0 0
+unfolding pageTwo
+past-page opcode h =
+    let wide : length (getD pageTwo (opcode % 16) []) ≡ 16
+    = eqb→eq _ _ (at-entry (λ k r. eqb (length r) 16) [] pageTwo tt (opcode % 16) (omega arith)) in
+    List·getD-eq-default (getD pageTwo (opcode % 16) []) (cellIs 0 0 0 0) (omega arith)
+
+past-cells : (k : ℕ) → 512 ≤ k → cellOf k ≡ cellIs 0 0 0 0
+unfolding cellOf
+past-cells k h = rw (le-ltb k 256 (omega arith)) (past-page (k - 256) (omega arith))
+
+pub moves-have-two-places : MovesHaveTwoPlaces
+unfolding rules
+moves-have-two-places k is = go (decLt k 512)
+  where
+    go : Dec (k < 512) → movesMode (cellOf k .mode) ≡ true
+    go (yes h) = sym (same-is true _ (rw (eq-eqb _ _ is) at (holds (rules k) (tested k h) 7)))
+    go (no n) = let none = rw (past-cells k (omega arith)) at is in absurd (omega (arith, none))
+
+pub moves-are-plain : MovesArePlain
+unfolding bounds
+moves-are-plain k p past free = go (decLt k 512)
+  where
+    go : Dec (k < 512) → formOf p ≡ IDX
+    go (yes h) =
+        let j = formOf p in
+        eqb→eq _ _ (rw (not-missing k p h free, lt-ltb _ _ past) at (holds (bounds k j) (bounded k j h (one-of-five p)) 7))
+    go (no n) = let none = rw (past-cells k (omega arith)) at past in absurd (omega (arith, none))

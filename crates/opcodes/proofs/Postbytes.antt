@@ -1,10 +1,13 @@
--- The laws of indexed postbytes, each by one test over all 256. Assumes nothing.
-use Prim.Native.Nat.{ℕ, _%_, _<_}
+-- The laws of indexed postbytes. Assumes nothing.
+use Prim.Native.Nat.{ℕ, _/_, _%_, _<_}
+use native.Mathlib.Omega.{arith}
 use mathlib.Core.Path.{_≡_}
+use mathlib.Core.Bool.{Bool, not}
 use mathlib.Core.List.{[], _∷_}
-use lib.Dec.{T, ltb, eqb, eqb→eq, ltb→lt}
+use lib.Dec.{T, ltb, eqb, eqb→eq}
 use lib.ListN.{getD}
-use Rattle.word.specs.Word.{pick}
+use Rattle.word.specs.Word.{pick, bitOf}
+use Rattle.word.proofs.Laws.{both}
 use Rattle.word.proofs.Table.{at-number}
 use Rattle.opcodes.specs.Postbyte.{IDX, IDX1, IDX2, [D:IDX], [IDX2], formOf, OneOfFive, AsTabled}
 
@@ -21,4 +24,12 @@ as-tabled p h =
 
 pub one-of-five : OneOfFive
 unfolding formOf
-one-of-five p h = ltb→lt _ _ (at-number (λ p. ltb (formOf p) 5) 256 tt p h)
+one-of-five p =
+    below (not (bitOf 5 p)) (omega arith)
+    (below (not (eqb (p / 64) 3)) (omega arith)
+    (below (not (bitOf 2 p))
+    (below (not (bitOf 1 p)) (omega arith) (below (not (bitOf 0 p)) (omega arith) (omega arith)))
+    (below (eqb (p % 4) 3) (omega arith) (omega arith))))
+  where
+    below : (t : Bool) {a b : ℕ} → a < 5 → b < 5 → pick t a b < 5
+    below t = both (λ (n : ℕ). n < 5) t _ _

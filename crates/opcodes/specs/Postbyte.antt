@@ -89,7 +89,7 @@ untakenOf c =
 
 -- every postbyte names one of the five forms
 abbrev pub OneOfFive : Type 0
-OneOfFive = (postbyte : ℕ) → postbyte < 256 → formOf postbyte < 5
+OneOfFive = (postbyte : ℕ) → formOf postbyte < 5
 
 -- The columns of table A-3 (002, p. A-22; 003): below E0 every postbyte is IDX; columns E and F repeat eight rows.
 abbrev pub AsTabled : Type 0

@@ -6,8 +6,8 @@ use mathlib.Core.List.{List, [], _∷_}
 use lib.Dec.{leb, ltb, eqb}
 use Rattle.word.specs.Word.{pick}
 use Rattle.opcodes.specs.declared.Cell.{Cell}
-use Rattle.opcodes.specs.Kind.{TRAP, PAGE2, STOP}
-use Rattle.opcodes.specs.Mode.{EX, ID}
+use Rattle.opcodes.specs.Kind.{TRAP, PAGE2, STOP, groupOf, MOVES}
+use Rattle.opcodes.specs.Mode.{EX, IM-EX, EX-EX, ID, IM-ID, EX-ID, ID-ID, ID-EX}
 use Rattle.opcodes.specs.Grid.{gridAt, NONE}
 use Rattle.opcodes.specs.Map.{cellOf}
 use Rattle.opcodes.specs.Postbyte.{IDX, formOf, indexedOf, reservedOf, lengthOf, costOf, untakenOf}
@@ -67,8 +67,7 @@ pub record Ruled (k : ℕ) : Type 0 where
 abbrev pub EveryCell : Type 0
 EveryCell = (k : ℕ) → k < 512 → Ruled k
 
--- An instruction with a postbyte that is not reserved costs 1 to 13 cycles, taken or not, and is 1 to 6 bytes long. Of a move, which
--- has a mode past ID, such a postbyte has the form IDX (document 01, "Reserved").
+-- An instruction with a postbyte that is not reserved costs 1 to 13 cycles, taken or not, and is 1 to 6 bytes long.
 pub record Bounded (k postbyte : ℕ) : Type 0 where
   pub cost-low : 1 ≤ costOf (cellOf k) postbyte
   pub cost-high : costOf (cellOf k) postbyte ≤ 13
@@ -76,7 +75,6 @@ pub record Bounded (k postbyte : ℕ) : Type 0 where
   pub untaken-high : untakenOf (cellOf k) ≤ 13
   pub length-low : 1 ≤ lengthOf (cellOf k) postbyte
   pub length-high : lengthOf (cellOf k) postbyte ≤ 6
-  pub moved : ID < cellOf k .mode → formOf postbyte ≡ IDX
 
 abbrev pub EveryInstruction : Type 0
 EveryInstruction =
@@ -86,3 +84,15 @@ EveryInstruction =
     runs k ≡ true →
     reservedOf (cellOf k) postbyte ≡ false →
     Bounded k postbyte
+
+-- the modes of a move: where from, and where to
+abbrev pub movesMode : ℕ → Bool
+movesMode mode = among mode (IM-EX ∷ EX-EX ∷ IM-ID ∷ EX-ID ∷ ID-ID ∷ ID-EX ∷ [])
+
+-- a move has one of these
+abbrev pub MovesHaveTwoPlaces : Type 0
+MovesHaveTwoPlaces = (k : ℕ) → groupOf (cellOf k .kind) ≡ MOVES → movesMode (cellOf k .mode) ≡ true
+
+-- and a postbyte in a mode past ID, which is a move's, has the form IDX or is reserved (document 01, "Reserved")
+abbrev pub MovesArePlain : Type 0
+MovesArePlain = (k postbyte : ℕ) → ID < cellOf k .mode → reservedOf (cellOf k) postbyte ≡ false → formOf postbyte ≡ IDX

@@ -4,12 +4,11 @@ use mathlib.Core.Bool.{Bool}
 use mathlib.Core.List.{List}
 use lib.Dec.{eqb}
 use Rattle.word.specs.Word.{pick, plusW, minusW}
-use Rattle.memory.specs.Memory.{byteAt, wordAt}
+use Rattle.memory.specs.Memory.{wordAt}
 use Rattle.state.specs.declared.State.{State}
 use Rattle.opcodes.specs.Mode.{IM-EX, EX-EX, IM-ID, EX-ID, ID-EX}
-use Rattle.operand.specs.declared.Place.{Place}
 use Rattle.routes.specs.declared.Route.{Route}
-use Rattle.operand.specs.Indexed.{plainPlace}
+use Rattle.operand.specs.Indexed.{indexedPlace}
 
 -- a move's source and destination, and the state after the updates of both base registers
 abbrev pub routeIs : ℕ → ℕ → State → Route
@@ -20,12 +19,6 @@ abbrev pub dataSize : Bool → ℕ
 dataSize wide = pick wide 2 1
 
 -- The moves, by the codings on the pages of MOVB and MOVW. PC as a base is corrected by table 3-3 (002, p. 3-11).
-
--- The place that a postbyte of a move names. A move has the form IDX alone: a postbyte of another form is reserved there, and then nothing
--- is fetched (document 01, "Reserved"; that the table says so is `moved` in crates/opcodes/specs/Rules.antt, and that this is then the
--- place that the bits name is `PlainByItsForm` in crates/operand/specs/Indexed.antt).
-unfoldable pub movePlace : State → List ℕ → ℕ → ℕ → Place
-movePlace s m at pc = plainPlace s pc (byteAt m at)
 
 -- data and then the destination's address
 abbrev pub immediateToExtended : State → List ℕ → ℕ → Bool → Route
@@ -38,27 +31,27 @@ extendedToExtended s m at = routeIs (wordAt m at) (wordAt m (plusW at 2)) s
 -- the destination's postbyte and then the data; PC + 1 for a byte, PC + 2 for a word
 unfoldable pub immediateToIndexed : State → List ℕ → ℕ → Bool → Route
 immediateToIndexed s m at wide =
-    let to = movePlace s m at (plusW (s .pc) (dataSize wide)) in
+    let to = indexedPlace s m at (plusW (s .pc) (dataSize wide)) in
     routeIs (plusW at 1) (to .address) (to .state)
 
 -- the destination's postbyte and then the source's address; PC + 2
 unfoldable pub extendedToIndexed : State → List ℕ → ℕ → Route
 extendedToIndexed s m at =
-    let to = movePlace s m at (plusW (s .pc) 2) in
+    let to = indexedPlace s m at (plusW (s .pc) 2) in
     routeIs (wordAt m (plusW at 1)) (to .address) (to .state)
 
 -- the source's postbyte and then the destination's address; PC - 2
 unfoldable pub indexedToExtended : State → List ℕ → ℕ → Route
 indexedToExtended s m at =
-    let from = movePlace s m at (minusW (s .pc) 2) in
+    let from = indexedPlace s m at (minusW (s .pc) 2) in
     routeIs (from .address) (wordAt m (plusW at 1)) (from .state)
 
 -- The source's postbyte, PC - 1, and then the destination's, PC + 1. The source's address and update come first, and the
 -- destination starts from the updated register (document 01).
 unfoldable pub indexedToIndexed : State → List ℕ → ℕ → Route
 indexedToIndexed s m at =
-    let from = movePlace s m at (minusW (s .pc) 1) in
-    let to = movePlace (from .state) m (plusW at 1) (plusW (s .pc) 1) in
+    let from = indexedPlace s m at (minusW (s .pc) 1) in
+    let to = indexedPlace (from .state) m (plusW at 1) (plusW (s .pc) 1) in
     routeIs (from .address) (to .address) (to .state)
 
 unfoldable pub routeOf : State → List ℕ → ℕ → ℕ → Bool → Route

@@ -1,13 +1,20 @@
-// Where a move takes its operand from and to. A postbyte of a move has the form IDX, so the place that it names is a plain one.
+// Where a move takes its operand from and to. A postbyte of a move has the form IDX, or it is reserved and nothing was fetched; so the place
+// that it names is a plain one.
 use decode::Decoded;
 use opcodes::mode;
 use operand::Place;
 use operand::plain_place;
 use state::State;
 ghost use mathlib.Core.Path.{_≡_};
+ghost use mathlib.Core.Bool.{true};
+ghost use Prim.Native.Nat.{_<_};
 ghost use lib.ListN.{length};
+ghost use Rattle.opcodes.specs.Mode.{ID, ID-ID};
+ghost use Rattle.opcodes.specs.Rules.{movesMode};
+ghost use Rattle.word.specs.Word.{plusW};
 ghost use Rattle.decode.specs.Decode.{Faithful};
-ghost use Rattle.routes.specs.Routes.{movePlace, routeIs, dataSize, immediateToExtended, extendedToExtended, immediateToIndexed, extendedToIndexed, indexedToExtended, indexedToIndexed, routeOf};
+ghost use Rattle.operand.specs.Indexed.{indexedPlace};
+ghost use Rattle.routes.specs.Routes.{routeIs, dataSize, immediateToExtended, extendedToExtended, immediateToIndexed, extendedToIndexed, indexedToExtended, indexedToIndexed, routeOf};
 
 // Where a move takes its operand from and to, and the state after the updates of both base registers.
 pub struct Route {
@@ -51,22 +58,26 @@ fn extended_to_extended(s: State, m: &[u8], at: u16) -> Route
 fn first_place(s: State, m: &[u8], d: Decoded, pc: u16) -> Place
     requires { ⌜ length (now m) ≡ 65536 ⌝ }
     requires { ⌜ Faithful (now m) d ⌝ }
-    ensures { λ r. ⌜ r ≡ movePlace s (now (m .entry)) (d .at) pc ⌝ }
+    requires { ⌜ ID < d .mode ⌝ }
+    ensures { λ r. ⌜ r ≡ indexedPlace s (now (m .entry)) (d .at) pc ⌝ }
 {
     plain_place(s, pc, d.postbyte)
 }
 
-// The place that the postbyte at `at`, the second of a move, names: it was not decoded.
-fn second_place(s: State, m: &[u8], at: u16, pc: u16) -> Place
+// The place that the second postbyte of a move names, right after the first: it was not decoded.
+fn second_place(s: State, m: &[u8], d: Decoded, pc: u16) -> Place
     requires { ⌜ length (now m) ≡ 65536 ⌝ }
-    ensures { λ r. ⌜ r ≡ movePlace s (now (m .entry)) at pc ⌝ }
+    requires { ⌜ Faithful (now m) d ⌝ }
+    requires { ⌜ d .mode ≡ ID-ID ⌝ }
+    ensures { λ r. ⌜ r ≡ indexedPlace s (now (m .entry)) (plusW (d .at) 1) pc ⌝ }
 {
-    plain_place(s, pc, memory::read_byte(m, at))
+    plain_place(s, pc, memory::read_byte(m, word::plus(d.at, 1)))
 }
 
 fn immediate_to_indexed(s: State, m: &[u8], d: Decoded, wide: bool) -> Route
     requires { ⌜ length (now m) ≡ 65536 ⌝ }
     requires { ⌜ Faithful (now m) d ⌝ }
+    requires { ⌜ ID < d .mode ⌝ }
     ensures { λ r. ⌜ r ≡ immediateToIndexed s (now (m .entry)) (d .at) wide ⌝ }
 {
     let to = first_place(s, m, d, word::plus(s.pc, data_size(wide)));
@@ -77,6 +88,7 @@ fn immediate_to_indexed(s: State, m: &[u8], d: Decoded, wide: bool) -> Route
 fn extended_to_indexed(s: State, m: &[u8], d: Decoded) -> Route
     requires { ⌜ length (now m) ≡ 65536 ⌝ }
     requires { ⌜ Faithful (now m) d ⌝ }
+    requires { ⌜ ID < d .mode ⌝ }
     ensures { λ r. ⌜ r ≡ extendedToIndexed s (now (m .entry)) (d .at) ⌝ }
 {
     let to = first_place(s, m, d, word::plus(s.pc, 2));
@@ -87,6 +99,7 @@ fn extended_to_indexed(s: State, m: &[u8], d: Decoded) -> Route
 fn indexed_to_extended(s: State, m: &[u8], d: Decoded) -> Route
     requires { ⌜ length (now m) ≡ 65536 ⌝ }
     requires { ⌜ Faithful (now m) d ⌝ }
+    requires { ⌜ ID < d .mode ⌝ }
     ensures { λ r. ⌜ r ≡ indexedToExtended s (now (m .entry)) (d .at) ⌝ }
 {
     let from = first_place(s, m, d, word::minus(s.pc, 2));
@@ -98,11 +111,12 @@ fn indexed_to_extended(s: State, m: &[u8], d: Decoded) -> Route
 fn indexed_to_indexed(s: State, m: &[u8], d: Decoded) -> Route
     requires { ⌜ length (now m) ≡ 65536 ⌝ }
     requires { ⌜ Faithful (now m) d ⌝ }
+    requires { ⌜ d .mode ≡ ID-ID ⌝ }
     ensures { λ r. ⌜ r ≡ indexedToIndexed s (now (m .entry)) (d .at) ⌝ }
 {
     let from = first_place(s, m, d, word::minus(s.pc, 1));
     let between = from.state;
-    let to = second_place(between, m, word::plus(d.at, 1), word::plus(s.pc, 1));
+    let to = second_place(between, m, d, word::plus(s.pc, 1));
     let after = to.state;
     route_is(from.address, to.address, after)
 }
@@ -111,6 +125,7 @@ fn indexed_to_indexed(s: State, m: &[u8], d: Decoded) -> Route
 pub fn route_of(s: State, m: &[u8], d: Decoded, wide: bool) -> Route
     requires { ⌜ length (now m) ≡ 65536 ⌝ }
     requires { ⌜ Faithful (now m) d ⌝ }
+    requires { ⌜ movesMode (d .mode) ≡ true ⌝ }
     ensures { λ r. ⌜ r ≡ routeOf s (now (m .entry)) (d .mode) (d .at) wide ⌝ }
 {
     if d.mode == mode::IM_EX {

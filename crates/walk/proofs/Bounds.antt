@@ -2,11 +2,12 @@
 use Prim.Native.Nat.{ℕ, _+_, _<_, _≤_}
 use native.Mathlib.Omega.{arith}
 use mathlib.Core.Path.{_≡_, refl, sym, _∙_, ap}
-use mathlib.Core.Bool.{Bool, true, false, _||_}
+use mathlib.Core.Bool.{Bool, true, false}
 use mathlib.Core.List.{List}
 use lib.Dec.{eqb}
 use borrow.Author.Tests.{eq-eqb, ne-eqb}
 use Rattle.word.specs.Word.{pick, plusW}
+use Rattle.word.proofs.Laws.{neither}
 use Rattle.memory.specs.Memory.{byteAt, AreBytes, IsWhole}
 use Rattle.memory.proofs.Laws.{stored-short}
 use Rattle.state.specs.declared.State.{State}
@@ -58,16 +59,11 @@ runs-on : (m : List ℕ) (pc : ℕ) → AreBytes m → Runs m pc → runsAt (num
 runs-on m pc bytes there =
     rw (sym (every-cell (numberAt m pc) (number-below m pc bytes) .stops) ∙ there .on, not-prebyte m pc)
 
--- the left part of a false disjunction
-or-left : (a b : Bool) → a || b ≡ false → a ≡ false
-or-left true b e = e
-or-left false b e = refl
-
 -- the instruction at PC costs what the map and the grid say
 bounded : (m : List ℕ) (pc : ℕ) → AreBytes m → Runs m pc → Bounded (numberAt m pc) (byteAt m (afterOpcode m pc))
 bounded m pc bytes there =
     let at = afterOpcode m pc in
-    let free = or-left (reservedOf (cellAt m pc) (byteAt m at)) _ (there .free) in
+    let free = neither (reservedOf (cellAt m pc) (byteAt m at)) _ (there .free) .0 in
     every-instruction (numberAt m pc) (byteAt m at) (number-below m pc bytes) (bytes at) (runs-on m pc bytes there) free
 
 -- a branch that is not taken costs 1 or 3

@@ -12,8 +12,8 @@ use Rattle.word.proofs.Laws.{both}
 use Rattle.opcodes.specs.Mode.{IM, DI, EX, IM-EX, EX-EX, IM-ID, EX-ID, ID-EX}
 use Rattle.operand.specs.declared.Place.{Place}
 use Rattle.routes.specs.declared.Route.{Route}
-use Rattle.operand.specs.Indexed.{placeIs, withBase, steppedPlace, constantPlace, plainAccumulator, accumulatorPlace, stepsOf, indexedPlace}
-use Rattle.routes.specs.Routes.{movePlace, routeIs, immediateToIndexed, extendedToIndexed, indexedToExtended, indexedToIndexed, routeOf}
+use Rattle.operand.specs.Indexed.{placeIs, withBase, steppedPlace, constantPlace, plainAccumulator, accumulatorPlace, indexedPlace}
+use Rattle.routes.specs.Routes.{routeIs, immediateToIndexed, extendedToIndexed, indexedToExtended, indexedToIndexed, routeOf}
 use Rattle.operand.specs.Operand.{operandPlace}
 use Rattle.decode.specs.declared.Decoded.{Decoded}
 use Rattle.walk.specs.Walk.{Before, before, Fits, Comes}
@@ -71,14 +71,6 @@ module _ {b : Before} where
     unfolding accumulatorPlace
     accumulator pc p = if eqb (p % 4) 3 lies placed w (λ k. word-in k _) else plain pc p
 
-    moved : (at pc : ℕ) → Placed b (movePlace s (b .memory) at pc)
-    unfolding movePlace
-    moved at pc =
-        let p = byteAt (b .memory) at in
-        if stepsOf p lies stepped p else
-        if bitOf 5 p lies plain pc p else
-        placed w (λ k. omega arith)
-
     pub indexed : (at pc : ℕ) → Placed b (indexedPlace s (b .memory) at pc)
     unfolding indexedPlace
     indexed at pc =
@@ -99,11 +91,11 @@ module _ {b : Before} where
     pub route : (mode : ℕ) (wide : Bool) → Routed b (routeOf s (b .memory) mode at wide)
     unfolding routeOf immediateToIndexed extendedToIndexed indexedToExtended indexedToIndexed
     route mode wide =
-        let im-id = moved w at (plusW (s .pc) (pick wide 2 1)) in
-        let ex-id = moved w at (plusW (s .pc) 2) in
-        let id-ex = moved w at (minusW (s .pc) 2) in
-        let from = moved w at (minusW (s .pc) 1) in
-        let to = moved (from .state) (plusW at 1) (plusW (s .pc) 1) in
+        let im-id = indexed w at (plusW (s .pc) (pick wide 2 1)) in
+        let ex-id = indexed w at (plusW (s .pc) 2) in
+        let id-ex = indexed w at (minusW (s .pc) 2) in
+        let from = indexed w at (minusW (s .pc) 1) in
+        let to = indexed (from .state) (plusW at 1) (plusW (s .pc) 1) in
         if eqb mode IM-EX goes routed w (λ k. word-in k _) else
         if eqb mode EX-EX goes routed w (λ k. word-in k _) else
         if eqb mode IM-ID goes routed (im-id .state) (im-id .address) else

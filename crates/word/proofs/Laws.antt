@@ -1,11 +1,18 @@
--- The halves of a number are the number again, a difference of addresses undoes the sum, and what holds of both holds of one.
+-- The halves of a number are the number again, a difference of addresses undoes the sum, and what holds of both holds of one. Also
+-- what a choice that is false says.
 -- Assumes nothing.
 use Prim.Native.Nat.{ℕ, zero, _+_, _*_, _/_, _%_, _<_}
 use native.Mathlib.Nat.{mul-comm, div-eq-of-lt, mod-eq-of-lt, mul-add-div-right, mul-add-mod-self-right, div-add-mod}
-use mathlib.Core.Path.{_≡_}
-use mathlib.Core.Bool.{Bool, true, false}
+use mathlib.Core.Path.{_≡_, refl, subst}
+use mathlib.Core.Bool.{Bool, true, false, _||_}
+use lib.Dec.{T}
 use native.Mathlib.Omega.{arith}
 use Rattle.word.specs.Word.{pick, highOf, lowOf, wordOf, highWord, lowWord, longOf, plusW, minusW}
+
+-- neither of two is true
+pub neither : (a b : Bool) → a || b ≡ false → (a ≡ false) × (b ≡ false)
+neither true b e = (e, absurd (subst T e tt))
+neither false b e = (refl, e)
 
 -- what holds of both holds of the one that is picked
 pub both : {A : Type 0} (P : A → Type 0) (t : Bool) (a b : A) → P a → P b → P (pick t a b)

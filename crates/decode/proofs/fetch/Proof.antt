@@ -27,7 +27,7 @@ stop c =
 priced : tie.Need-full-cost-requires
 priced c κs =
     let start = c .before .before .before .before .before .before .before in
-    (start .pre .1 .0, rw (c .form-of .ensures) (one-of-five _ (c .before .read-byte .ok)))
+    (start .pre .1 .0, rw (c .form-of .ensures) (one-of-five _))
 
 first : tie.Need-reserved-requires
 unfolding costOf

@@ -8,7 +8,7 @@ use Rattle.decode.proofs.second_reserved.Tie as tie
 priced : tie.Need-full-cost-requires
 priced c κs =
     let start = c .before .before .before .before .before .before in
-    (start .pre .0, rw (c .form-of .ensures) (one-of-five _ (c .before .read-byte .ok)))
+    (start .pre .0, rw (c .form-of .ensures) (one-of-five _))
 
 asked : tie.Need-reserved-requires
 unfolding costOf

@@ -1,3 +1,4 @@
+use mathlib.Core.Path.{sym, _∙_}
 use borrow.Author.Needs.{needs}
 use borrow.Author.Tests.{ne-eqb}
 use Rattle.execute8.specs.Bytes.{inAEffect, inBEffect}
@@ -11,8 +12,12 @@ use Rattle.turn.proofs.executed.Tie as tie
 controlled-asks : tie.Need-controlled-requires
 controlled-asks c κs = c .before .before .before .pre
 
+-- a move has the modes of one
 moves-asks : tie.Need-moves-requires
-moves-asks c κs = c .before .before .before .pre
+moves-asks c κs =
+    let start = c .before .before .before in
+    let group = sym (c .before .group-of .ensures) ∙ c .match .keys9 in
+    (start .pre .0, (start .pre .1, start .pre .1 .moves group))
 
 operand-asks : tie.Need-with-operand-requires
 operand-asks c κs = c .before .before .before .pre
