@@ -140,11 +140,6 @@ fn low_byte(p: Parsed) -> u8 {
     (p.value % 0x100) as u8
 }
 
-// The value of a number that was read as one of at most $FFFF.
-fn low_word(p: Parsed) -> u16 {
-    (p.value % 0x10000) as u16
-}
-
 fn registers(line: &[u8], at: usize) -> Given {
     let a = number(line, at, 0xFF);
     let b = number(line, a.next, 0xFF);
@@ -156,8 +151,12 @@ fn registers(line: &[u8], at: usize) -> Given {
     let w = number(line, ccr.next, 1);
     let clock = number(line, w.next, 0xFFFFFFFF);
     let bytes = State::cleared().with_a(low_byte(a)).with_b(low_byte(b));
-    let index = bytes.with_x(low_word(x)).with_y(low_word(y));
-    let words = index.with_sp(low_word(sp)).with_pc(low_word(pc));
+    let index = bytes
+        .with_x(word::low_word(x.value))
+        .with_y(word::low_word(y.value));
+    let words = index
+        .with_sp(word::low_word(sp.value))
+        .with_pc(word::low_word(pc.value));
     let codes = words.with_flags(Flags::of_ccr(low_byte(ccr)));
     let state = codes.with_waiting(w.value == 1).with_clock(clock.value);
     let first = a.ok & b.ok & x.ok & y.ok & sp.ok;

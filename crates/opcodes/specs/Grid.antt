@@ -37,8 +37,8 @@ SUBROUTINE = 8
 abbrev pub ADDRESS : ℕ
 ADDRESS = 9
 
-abbrev pub BITS : ℕ
-BITS = 10
+abbrev pub BIT-CHANGE : ℕ
+BIT-CHANGE = 10
 
 abbrev pub BIT-BRANCH : ℕ
 BIT-BRANCH = 11
@@ -128,7 +128,7 @@ families =
     CHOOSE ∷ CHOOSE ∷ CHOOSE ∷ CHOOSE ∷ CHOOSE-M ∷ CHOOSE-M ∷ CHOOSE-M ∷ CHOOSE-M ∷ NONE ∷ NONE ∷ NONE ∷ NONE ∷ NONE ∷ NONE ∷ NONE ∷ NONE ∷
     MOVE-M ∷ MOVE-M ∷ NONE ∷ NONE ∷ NONE ∷ NONE ∷ NONE ∷ NONE ∷ NONE ∷ NONE ∷ NONE ∷ NONE ∷ NONE ∷ NONE ∷ NONE ∷ NONE ∷
     LOOKUP ∷ LOOKUP-W ∷ NONE ∷ NONE ∷ NONE ∷ NONE ∷ NONE ∷ NONE ∷ NONE ∷ NONE ∷ NONE ∷ NONE ∷ NONE ∷ NONE ∷ NONE ∷ NONE ∷
-    BITS ∷ BITS ∷ BIT-BRANCH ∷ BIT-BRANCH ∷ NONE ∷ NONE ∷ NONE ∷ NONE ∷ NONE ∷ NONE ∷ NONE ∷ NONE ∷ NONE ∷ NONE ∷ NONE ∷ NONE ∷
+    BIT-CHANGE ∷ BIT-CHANGE ∷ BIT-BRANCH ∷ BIT-BRANCH ∷ NONE ∷ NONE ∷ NONE ∷ NONE ∷ NONE ∷ NONE ∷ NONE ∷ NONE ∷ NONE ∷ NONE ∷ NONE ∷ NONE ∷
     []
 
 -- the family of a cell: that of its kind, but moves of immediate data are a family of their own

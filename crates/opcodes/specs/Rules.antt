@@ -85,7 +85,7 @@ EveryInstruction =
     reservedOf (cellOf k) postbyte ≡ false →
     Bounded k postbyte
 
--- the modes of a move: where from, and where to
+-- the modes of a move, where from and where to (002, the pages of MOVB and MOVW)
 abbrev pub movesMode : ℕ → Bool
 movesMode mode = among mode (IM-EX ∷ EX-EX ∷ IM-ID ∷ EX-ID ∷ ID-ID ∷ ID-EX ∷ [])
 

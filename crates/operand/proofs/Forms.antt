@@ -1,5 +1,6 @@
 -- The place that a postbyte names, by its bits and by its form. On the definitions alone. Assumes nothing.
-use Prim.Native.Nat.{ℕ, _/_, _%_}
+use Prim.Native.Nat.{ℕ, zero, suc, _/_, _%_, _<_}
+use native.Mathlib.Omega.{arith}
 use mathlib.Core.Path.{_≡_, refl, sym, _∙_, ap}
 use mathlib.Core.Bool.{Bool, true, false, not, _&&_}
 use lib.Dec.{eqb}
@@ -28,12 +29,25 @@ agree true true false true true d five stepped plain pointer nine sixteen throug
 agree true true true b1 b0 false five stepped plain pointer nine sixteen through = refl
 agree true true true b1 b0 true five stepped plain pointer nine sixteen through = refl
 
+-- of four numbers the fourth is asked first, and not last
+fourth-first :
+    (n : ℕ) → n < 4 → (a b d pointer : Place) →
+    pick (eqb n 3) pointer (pick (eqb n 0) a (pick (eqb n 1) b d)) ≡ pick (eqb n 0) a (pick (eqb n 1) b (pick (eqb n 2) d pointer))
+fourth-first zero h a b d pointer = refl
+fourth-first (suc zero) h a b d pointer = refl
+fourth-first (suc (suc zero)) h a b d pointer = refl
+fourth-first (suc (suc (suc zero))) h a b d pointer = refl
+fourth-first (suc (suc (suc (suc n)))) h a b d pointer = absurd (omega (arith, h))
+
 pub by-its-form : ByItsForm
 unfolding placeIn indexedPlace formOf constantPlace accumulatorPlace
 by-its-form s m at pc =
     let p = byteAt m at in
     agree (bitOf 5 p) (eqb (p / 64) 3) (bitOf 2 p) (bitOf 1 p) (bitOf 0 p) (eqb (p % 4) 3) (fivePlace s pc p) (steppedPlace s p)
     (plainAccumulator s pc p) (throughD s m pc p) (nineBits s m at pc p) (sixteenBits s m at pc p) (throughSixteen s m at pc p)
+    ∙ ap
+    (λ (place : Place). pick (bitOf 5 p) (pick (eqb (p / 64) 3) (pick (bitOf 2 p) place (constantPlace s m at pc p)) (steppedPlace s p)) (fivePlace s pc p))
+    (fourth-first (p % 4) (omega arith) _ _ _ _)
 
 pub plain-by-its-form : PlainByItsForm
 unfolding placeIn

@@ -57,20 +57,15 @@ constantPlace s m at pc p =
     pick (bitOf 1 p) (pick (bitOf 0 p) (throughSixteen s m at pc p) (sixteenBits s m at pc p)) (nineBits s m at pc p)
 
 -- 111rr1aa: unsigned A, unsigned B, D, or indirect through D
-abbrev pub plainAccumulator : State → ℕ → ℕ → Place
-plainAccumulator s pc p =
+unfoldable pub accumulatorPlace : State → List ℕ → ℕ → ℕ → Place
+accumulatorPlace s m pc p =
     let base = baseOf s pc (p / 8 % 4) in
     pick (eqb (p % 4) 0) (placeIs (plusW base (s .a)) s)
-    (pick (eqb (p % 4) 1) (placeIs (plusW base (s .b)) s) (placeIs (plusW base (dOf s)) s))
-
-abbrev pub throughD : State → List ℕ → ℕ → ℕ → Place
-throughD s m pc p = placeIs (wordAt m (plusW (baseOf s pc (p / 8 % 4)) (dOf s))) s
-
-unfoldable pub accumulatorPlace : State → List ℕ → ℕ → ℕ → Place
-accumulatorPlace s m pc p = pick (eqb (p % 4) 3) (throughD s m pc p) (plainAccumulator s pc p)
+    (pick (eqb (p % 4) 1) (placeIs (plusW base (s .b)) s)
+    (pick (eqb (p % 4) 2) (placeIs (plusW base (dOf s)) s) (placeIs (wordAt m (plusW base (dOf s))) s)))
 
 -- The place that the postbyte at an address names, with the bytes after it. `pc` is what PC stands for as a base: the address
--- after the whole instruction.
+-- after the whole instruction, and in a move that address as table 3-3 corrects it.
 unfoldable pub indexedPlace : State → List ℕ → ℕ → ℕ → Place
 indexedPlace s m at pc =
     let p = byteAt m at in
@@ -78,9 +73,21 @@ indexedPlace s m at pc =
     (pick (eqb (p / 64) 3) (pick (bitOf 2 p) (accumulatorPlace s m pc p) (constantPlace s m at pc p)) (steppedPlace s p))
     (fivePlace s pc p)
 
+-- The same places as the code finds them, by the form that was decoded. The laws at the end say that they are the same.
+
 -- whether a postbyte is rr1pnnnn, rr not 3, and so steps its base register
 abbrev pub stepsOf : ℕ → Bool
 stepsOf p = bitOf 5 p && not (eqb (p / 64) 3)
+
+-- an accumulator's place that is no pointer, and the one that is
+abbrev pub plainAccumulator : State → ℕ → ℕ → Place
+plainAccumulator s pc p =
+    let from = baseOf s pc (p / 8 % 4) in
+    pick (eqb (p % 4) 0) (placeIs (plusW from (s .a)) s)
+    (pick (eqb (p % 4) 1) (placeIs (plusW from (s .b)) s) (placeIs (plusW from (dOf s)) s))
+
+abbrev pub throughD : State → List ℕ → ℕ → ℕ → Place
+throughD s m pc p = placeIs (wordAt m (plusW (baseOf s pc (p / 8 % 4)) (dOf s))) s
 
 -- The places of the form IDX, those without a further byte or a pointer: the base register steps, or an accumulator is added to it, or 5
 -- bits are.

@@ -43,7 +43,7 @@ pub fn allowed_line(f: Flags, line: u8) -> u8
     if line == 0 {
         return 8;
     }
-    let warned = (line / 1 % 2 == 1) & !f.x;
+    let warned = (line % 2 == 1) & !f.x;
     if warned {
         return 0;
     }

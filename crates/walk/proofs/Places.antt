@@ -12,7 +12,7 @@ use Rattle.word.proofs.Laws.{both}
 use Rattle.opcodes.specs.Mode.{IM, DI, EX, IM-EX, EX-EX, IM-ID, EX-ID, ID-EX}
 use Rattle.operand.specs.declared.Place.{Place}
 use Rattle.routes.specs.declared.Route.{Route}
-use Rattle.operand.specs.Indexed.{placeIs, withBase, steppedPlace, constantPlace, plainAccumulator, accumulatorPlace, indexedPlace}
+use Rattle.operand.specs.Indexed.{placeIs, withBase, steppedPlace, constantPlace, accumulatorPlace, indexedPlace}
 use Rattle.routes.specs.Routes.{routeIs, immediateToIndexed, extendedToIndexed, indexedToExtended, indexedToIndexed, routeOf}
 use Rattle.operand.specs.Operand.{operandPlace}
 use Rattle.decode.specs.declared.Decoded.{Decoded}
@@ -61,15 +61,13 @@ module _ {b : Before} where
         if bitOf 1 p lies (if bitOf 0 p lies placed w (λ k. word-in k _) else placed w (λ k. omega arith)) else
         placed w (λ k. omega arith)
 
-    plain : (pc p : ℕ) → Placed b (plainAccumulator s pc p)
-    plain pc p =
-        if eqb (p % 4) 0 lies placed w (λ k. omega arith) else
-        if eqb (p % 4) 1 lies placed w (λ k. omega arith) else
-        placed w (λ k. omega arith)
-
     accumulator : (pc p : ℕ) → Placed b (accumulatorPlace s (b .memory) pc p)
     unfolding accumulatorPlace
-    accumulator pc p = if eqb (p % 4) 3 lies placed w (λ k. word-in k _) else plain pc p
+    accumulator pc p =
+        if eqb (p % 4) 0 lies placed w (λ k. omega arith) else
+        if eqb (p % 4) 1 lies placed w (λ k. omega arith) else
+        if eqb (p % 4) 2 lies placed w (λ k. omega arith) else
+        placed w (λ k. word-in k _)
 
     pub indexed : (at pc : ℕ) → Placed b (indexedPlace s (b .memory) at pc)
     unfolding indexedPlace

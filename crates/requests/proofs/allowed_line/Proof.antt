@@ -1,3 +1,5 @@
+use Prim.Native.Nat.{ℕ, _/_, _^_}
+use native.Mathlib.Omega.{arith}
 use mathlib.Core.Path.{_≡_, refl, sym}
 use mathlib.Core.Bool.{Bool, true, false}
 use Rattle.word.specs.Word.{pick}
@@ -16,20 +18,24 @@ none-up f = go (f .i)
     go true = refl
     go false = refl
 
+-- bit 0 is told by the number itself
+undivided : (n : ℕ) → n / 2 ^ 0 ≡ n
+undivided n = omega arith
+
 quiet : tie.Need-returns
 quiet c = rw (c .if1 .taken) (sym (none-up _))
 
 warned : tie.Need-returns-2
 unfolding allowedLine
-warned c = rw (c .if2 .taken)
+warned c = rw (undivided _, c .if2 .taken)
 
 masked : tie.Need-returns-3
 unfolding allowedLine
-masked c = rw (c .before .if2 .left, c .if3 .taken)
+masked c = rw (undivided _, c .before .if2 .left, c .if3 .taken)
 
 lowest : tie.Need-returns-4
 unfolding allowedLine
-lowest c = rw (c .before .before .if2 .left, c .before .if3 .left, c .lowest-line .ensures)
+lowest c = rw (undivided _, c .before .before .if2 .left, c .before .if3 .left, c .lowest-line .ensures)
 
 pub allowed-line-spec : {M : Type 1} → statement M
 allowed-line-spec = tie.close (tie.spec quiet warned masked (λ c κs. search needs) lowest)
