@@ -26,7 +26,8 @@ use Rattle.steps.proofs.Loop.{run-stops, run-spends, run-steps, after-twice, af
 use Rattle.run.proofs.OneStep.{costs-one}
 use Rattle.walk.specs.Words.{Words}
 use Rattle.promises.proofs.Words.{every-boundary-has-words}
-use Rattle.promises.specs.Steps.{AStepIsATurn, afterSteps, IsOfSteps, ARunIsItsSteps, ARunSplits, TheClockGrows, WithinTheBudget}
+use Rattle.promises.specs.Steps.{AStepIsATurn, afterSteps, IsOfSteps, ARunIsItsSteps, ARunSplits, OneAfterAnother, RunsGoOn, TheClockGrows, WithinTheBudget}
+use Rattle.promises.specs.Steps.OneAfterAnother.{one-run, one-more-run}
 
 pub a-step-is-a-turn : AStepIsATurn
 a-step-is-a-turn = step-taken
@@ -120,6 +121,92 @@ takes-steps (suc k) s m given left enough w bytes =
 pub a-run-is-its-steps : ARunIsItsSteps
 a-run-is-its-steps s m given budget w bytes free =
     rw (run-taken s m given budget free) (takes-steps (suc budget) s m given budget (omega arith) w bytes)
+
+-- so many steps, and then so many more
+later :
+    (n k : ℕ) (s : State) (m : List ℕ) (given : Given) →
+    afterSteps (n + k) given s m
+    ≡ after (afterSteps n given s m .cycles) (afterSteps k given (afterSteps n given s m .state) (afterSteps n given s m .memory))
+unfolding afterSteps
+later zero k s m given =
+    let is : 0 + k ≡ k = omega arith in
+    ap (λ (j : ℕ). afterSteps j given s m) is ∙ sym (after-none (afterSteps k given s m))
+later (suc n) k s m given =
+    let is : suc n + k ≡ suc (n + k) = omega arith in
+    ap (λ (j : ℕ). afterSteps j given s m) is
+    ∙ ap (after (turnAt given s m .effect .cost)) (later n k (nextState given s m) (nextMemory given s m) given)
+    ∙ after-twice (turnAt given s m .effect .cost) _ _
+
+-- registers of bytes and words, and a memory of bytes, after any number of steps
+words-after :
+    (n : ℕ) (s : State) (m : List ℕ) (given : Given) →
+    Words s →
+    AreBytes m →
+    Words (afterSteps n given s m .state) × AreBytes (afterSteps n given s m .memory)
+unfolding afterSteps
+words-after zero s m given w bytes = (w, bytes)
+words-after (suc n) s m given w bytes =
+    let next = every-boundary-has-words s m (lineIn given (s .clock)) w bytes in
+    words-after n (nextState given s m) (nextMemory given s m) given (next .0) (next .1)
+
+-- an end of n steps, and from there one of k steps: together an end of n + k
+module _
+    (s : State) (m : List ℕ) (given : Given) (n k first second : ℕ) (e f : End) (one : IsOfSteps n s m given first e)
+    (two : IsOfSteps k (e .state) (e .memory) given second f)
+  where
+    at : (j : ℕ) → afterSteps (n + j) given s m ≡ after (e .cycles) (afterSteps j given (e .state) (e .memory))
+    at j = later n j s m given ∙ (λ i. after (sym (one .used) i) (afterSteps j given (sym (one .state) i) (sym (one .memory) i)))
+
+    done-at : (j : ℕ) → j < k → numberOf (turnAt given (afterSteps (n + j) given s m .state) (afterSteps (n + j) given s m .memory) .reply) ≡ 0
+    done-at j h = rw (at j) (two .done j h)
+
+    joined-done : (j : ℕ) → j < n + k → numberOf (turnAt given (afterSteps j given s m .state) (afterSteps j given s m .memory) .reply) ≡ 0
+    joined-done j h = go (decLt j n)
+      where
+        go : Dec (j < n) → numberOf (turnAt given (afterSteps j given s m .state) (afterSteps j given s m .memory) .reply) ≡ 0
+        go (yes l) = one .done j l
+        go (no l) =
+            let is : j ≡ n + (j - n) = omega (arith, l) in
+            ap (λ (i : ℕ). numberOf (turnAt given (afterSteps i given s m .state) (afterSteps i given s m .memory) .reply)) is
+            ∙ done-at (j - n) (omega (arith, l, h))
+
+    joined-paid : (j : ℕ) → j ≤ n + k → afterSteps j given s m .cycles ≤ e .cycles + second
+    joined-paid j h = go (decLt j n)
+      where
+        go : Dec (j < n) → afterSteps j given s m .cycles ≤ e .cycles + second
+        go (yes l) =
+            let is : j + (n - j) ≡ n = omega (arith, l) in
+            let rest = ap (λ (x : End). x .cycles) (later j (n - j) s m given) in
+            let all = ap (λ (i : ℕ). afterSteps i given s m .cycles) is in
+            omega (arith, rest, all, one .used)
+        go (no l) =
+            let is : j ≡ n + (j - n) = omega (arith, l) in
+            let here = ap (λ (i : ℕ). afterSteps i given s m .cycles) is in
+            let then = ap (λ (x : End). x .cycles) (at (j - n)) in
+            let most = two .paid (j - n) (omega (arith, l, h)) in
+            omega (arith, here, then, most)
+
+    joined : IsOfSteps (n + k) s m given (e .cycles + second) (after (e .cycles) f)
+    joined =
+        record {
+          done = joined-done;
+          paid = joined-paid;
+          state = two .state ∙ sym (ap (λ (x : End). x .state) (at k));
+          memory = two .memory ∙ sym (ap (λ (x : End). x .memory) (at k));
+          used = ap (λ (c : ℕ). e .cycles + c) (two .used) ∙ sym (ap (λ (x : End). x .cycles) (at k));
+          reply = two .reply;
+          spent = λ r. let short = two .spent r in omega (arith, short);
+        }
+
+pub runs-go-on : RunsGoOn
+runs-go-on s m given room e w bytes (one-run budget free) = a-run-is-its-steps s m given budget w bytes free
+runs-go-on s m given room e w bytes (one-more-run {room = room′} {e = e′} runs budget free) =
+    let so-far = runs-go-on s m given room′ e′ w bytes runs in
+    let there = words-after (so-far .0) s m given w bytes in
+    let words : Words (e′ .state) = rw (so-far .1 .state) (there .0) in
+    let held : AreBytes (e′ .memory) = rw (so-far .1 .memory) (there .1) in
+    let last = a-run-is-its-steps (e′ .state) (e′ .memory) given budget words held free in
+    (so-far .0 + last .0, joined s m given (so-far .0) (last .0) room′ budget e′ _ (so-far .1) (last .1))
 
 -- What a run keeps to from any boundary: its clock, its budget and its memory's length.
 record Keeps (s : State) (m : List ℕ) (left : ℕ) (e : End) : Type 0 where

@@ -66,6 +66,29 @@ ARunSplits =
     (runOf (runOf s m given first .state) (runOf s m given first .memory) given
     (budget - runOf s m given first .cycles))
 
+-- Runs one after another from a state and a memory: a first, and then any number of further ones, each of which goes on with the state
+-- and the memory that the one before it left, and with a budget as the caller likes, within a run's limits. (After 4 or 5 a further run
+-- ends where it begins, with the same reply.) e is what they end with, all together, and `room` what they may spend, all together: the
+-- cycles that the earlier ones used, and the last one's budget.
+pub data OneAfterAnother (s : State) (m : List ℕ) (given : Given) : ℕ → End → Type 0 where
+  one-run : (budget : ℕ) → runRefusal s m given budget ≡ 0 → OneAfterAnother s m given budget (runOf s m given budget)
+  one-more-run :
+      {room : ℕ} {e : End} →
+      OneAfterAnother s m given room e →
+      (budget : ℕ) →
+      runRefusal (e .state) (e .memory) given budget ≡ 0 →
+      OneAfterAnother s m given (e .cycles + budget) (after (e .cycles) (runOf (e .state) (e .memory) given budget))
+
+-- The steps of a further run are the further steps of those before it, whatever the budgets: all together end as so many steps do, one
+-- after another, up to what they may spend. So a run that has to go on longer than one budget allows is called again.
+abbrev pub RunsGoOn : Type 0
+RunsGoOn =
+    (s : State) (m : List ℕ) (given : Given) (room : ℕ) (e : End) →
+    Words s →
+    AreBytes m →
+    OneAfterAnother s m given room e →
+    (n : ℕ) × IsOfSteps n s m given room e
+
 -- the clock grows by the cycles used, and these are within the budget
 abbrev pub TheClockGrows : Type 0
 TheClockGrows =
