@@ -1,4 +1,5 @@
 pub mod Words
+pub mod Frame
 pub mod Store
 pub mod Outcome
 pub mod Steps
