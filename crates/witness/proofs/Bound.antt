@@ -140,10 +140,13 @@ the-bound-is-reached =
     record {
       bytes = are-bytes;
       free = not-refused;
-      up = stays-up;
-      first = first-from;
-      clear = ap (λ (v : Seen). v .x) (step 1 (omega arith));
-      on = no-stop;
+      rises =
+          record {
+            up = stays-up;
+            first = first-from;
+            clear = ap (λ (v : Seen). v .x) (step 1 (omega arith));
+            on = no-stop;
+          };
       budgeted = refl;
       ends = clock-after 2 (omega arith);
     }

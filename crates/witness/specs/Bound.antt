@@ -1,7 +1,6 @@
 -- The bound of the warning is reached: 21 cannot be made smaller. Proved under the same names in proofs/Bound.antt.
 use Prim.Native.Nat.{ℕ, _+_}
 use mathlib.Core.Path.{_≡_}
-use mathlib.Core.Bool.{false}
 use mathlib.Core.List.{List, [], _∷_, _++_}
 use lib.ListN.{replicate}
 use Rattle.state.specs.State.{noState, withPc, withClock}
@@ -10,7 +9,7 @@ use Rattle.memory.specs.Memory.{AreBytes}
 use Rattle.refusals.specs.Given.{Given, givenIs}
 use Rattle.refusals.specs.Refusals.{runRefusal}
 use Rattle.promises.specs.Steps.{afterSteps}
-use Rattle.promises.specs.Warning.{stateAt, StaysUp, FirstFrom, NoStopBefore}
+use Rattle.promises.specs.Warning.{stateAt, Rises}
 
 -- An image: ANDCC #BF, which clears X, and EMACS 2000 at 4000; the XIRQ vector is 5000, the reset vector 4000. Numbers are hexadecimal.
 unfoldable pub slowest : List ℕ
@@ -27,10 +26,7 @@ slowest =
 pub record Reached (T n : ℕ) (m : List ℕ) (given : Given) (budget : ℕ) : Type 0 where
   pub bytes : AreBytes m
   pub free : runRefusal (resetOf m) m given budget ≡ 0
-  pub up : StaysUp T given
-  pub first : FirstFrom T n m given
-  pub clear : stateAt n m given .flags .x ≡ false
-  pub on : NoStopBefore n m given
+  pub rises : Rises T n m given
   pub budgeted : budget ≡ T + 21
   pub ends : stateAt (n + 1) m given .clock ≡ T + 21
 
