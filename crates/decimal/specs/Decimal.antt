@@ -1,4 +1,4 @@
--- DAA, from its glossary page in source document 002: the rows of its table, in the page's order and columns.
+-- DAA, from its glossary page in source document 002 (p. 6-69): the rows of its table, in the page's order and columns.
 use Prim.Native.Nat.{ℕ, _+_, _/_, _%_}
 use mathlib.Core.Bool.{Bool, true, false, _&&_, Bool·beq}
 use mathlib.Core.List.{List, [], _∷_}
@@ -53,7 +53,7 @@ abbrev pub correctedOf : List Row → Bool → Bool → ℕ → Bool
 correctedOf [] c h a = c
 correctedOf (w ∷ ws) c h a = pick (serves w c h a) (w .corrected) (correctedOf ws c h a)
 
--- DAA: the factor is added to A. N: MSB of the result. Z: the result is $00. V: undefined, and so as it was. C: the table's.
+-- DAA (p. 6-69): the factor is added to A. N: MSB of the result. Z: the result is $00. V: undefined, and so as it was. C: the table's.
 abbrev pub daaByte : Flags → ℕ → Byte
 daaByte f a =
     byteOf ((a + factorOf table (f .c) (f .h) a) % 256)

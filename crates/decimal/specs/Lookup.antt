@@ -1,4 +1,4 @@
--- TBL and ETBL, from their glossary pages in source document 002.
+-- TBL (p. 6-201) and ETBL (6-89), from their glossary pages in source document 002.
 use Prim.Native.Nat.{ℕ, _+_, _-_, _*_, _/_, _≤_, _<_}
 use mathlib.Core.Path.{_≡_}
 use mathlib.Core.Bool.{Bool}
@@ -19,9 +19,11 @@ lookupOf b y1 y2 = (y1 * 256 + b * y2 - b * y1) / 256
 abbrev pub lookupCodes : ℕ → Flags → ℕ → Flags
 lookupCodes k f r = setZ (setN f (bitOf k r)) (eqb r 0)
 
+-- TBL (p. 6-201): two entries of a byte
 abbrev pub tblByte : Flags → ℕ → ℕ → ℕ → Byte
 tblByte f b y1 y2 = byteOf (lookupOf b y1 y2) (lookupCodes 7 f)
 
+-- ETBL (p. 6-89): two entries of a word
 abbrev pub etblWord : Flags → ℕ → ℕ → ℕ → Word
 etblWord f b y1 y2 = wideOf (lookupOf b y1 y2) (lookupCodes 15 f)
 

@@ -1,4 +1,4 @@
--- Table lookup. The glossary of 002 (section 6.6), the pages of TBL and ETBL.
+-- Table lookup, from the glossary of 002 (section 6.6).
 use Prim.Native.Nat.{ℕ}
 use mathlib.Core.List.{List}
 use lib.Dec.{eqb}
@@ -14,7 +14,7 @@ use Rattle.effect.specs.Effect.{quiet}
 use Rattle.execute8.specs.Bytes.{aResult}
 use Rattle.execute16.specs.Words.{dResult}
 
--- TBL, and else ETBL: two entries of a table, from the operand's address a on, and B
+-- TBL (p. 6-201), and else ETBL (6-89): two entries of a table, from the operand's address a on, and B
 unfoldable pub lookedUp : ℕ → State → List ℕ → ℕ → State
 lookedUp kind s m a =
     pick (eqb kind TBL) (aResult s (tblByte (s .flags) (s .b) (byteAt m a) (byteAt m (plusW a 1))))

@@ -1,5 +1,5 @@
--- What works on registers and condition codes alone, the transfers among it. Each costs what its cell says and stores nothing.
--- The glossary of 002 (section 6.6), the page of the instruction that is named.
+-- What works on registers and condition codes alone, the transfers among it. Each costs what its cell says and stores nothing. The
+-- glossary of 002 (section 6.6), on the page that is named beside the instruction.
 use Prim.Native.Nat.{ℕ}
 use mathlib.Core.Bool.{false}
 use mathlib.Core.List.{List}
@@ -20,7 +20,7 @@ use Rattle.effect.specs.Effect.{quiet}
 use Rattle.execute8.specs.Bytes.{loadedByte, aResult, bResult}
 use Rattle.execute16.specs.Words.{dResult, xResult, yResult}
 
--- LSRD to SBA, which is the last
+-- LSRD (p. 6-138), ASLD (6-22), INX (6-100), INY (6-101), DEX (6-76), DEY (6-77), ABA (6-8), and the last SBA (6-179)
 unfoldable pub firstRegisters : ℕ → State → State
 firstRegisters kind s =
     pick (eqb kind LSRD) (dResult s (lsrdWord (s .flags) (dOf s)))
@@ -32,7 +32,8 @@ firstRegisters kind s =
     (pick (eqb kind ABA) (aResult s (addByte (s .flags) (s .a) (s .b) false))
     (aResult s (subByte (s .flags) (s .a) (s .b) false))))))))
 
--- CBA to NOP, which is the last; n is the byte after the opcode, a mask or a postbyte
+-- CBA (p. 6-53), DAA (6-69), TAB (6-197), TBA (6-199), ANDCC (6-18), ORCC (6-153), TFR (6-203) with EXG (6-90), and the last NOP (6-150),
+-- which changes nothing; n is the byte after the opcode, a mask or a postbyte
 unfoldable pub secondRegisters : ℕ → State → ℕ → State
 secondRegisters kind s n =
     pick (eqb kind CBA) (withFlags s (subByte (s .flags) (s .a) (s .b) false .flags))

@@ -1,7 +1,7 @@
--- The instructions on words: D, X, Y or SP with an operand, the stores, and the larger or smaller of two. As in crate execute8,
--- what an instruction does is said of numbers, and the groups then say where these come from; the state is the one after the
--- operand's base register has stepped. The operations are those of the glossary (002, section 6.6), each on the page of the
--- instruction that is named.
+-- The instructions on words: D, X, Y or SP with an operand, the stores, and the larger or smaller of two. As in crate execute8, what an
+-- instruction does is said of numbers, and the groups then say where these come from; the state is the one after the operand's base
+-- register has stepped. The operations are those of the glossary (002, section 6.6), each on the page that is named beside the
+-- instruction.
 use Prim.Native.Nat.{ℕ}
 use mathlib.Core.List.{List}
 use lib.Dec.{eqb}
@@ -21,7 +21,7 @@ use Rattle.effect.specs.declared.Effect.{Effect}
 use Rattle.effect.specs.Effect.{quiet, writes}
 use Rattle.execute8.specs.Bytes.{aResult}
 
--- a load of a word: N and Z of it, V 0
+-- a load of a word, as LDD (p. 6-124): N and Z of it, V 0
 abbrev pub loadedWord : Flags → ℕ → Word
 loadedWord f m = wideOf m (resultCodes 15 f)
 
@@ -38,11 +38,12 @@ yResult s r = withFlags (withY s (r .value)) (r .flags)
 abbrev pub spResult : State → Word → State
 spResult s r = withFlags (withSp s (r .value)) (r .flags)
 
--- a comparison: the codes of a result, and every register as it was
+-- a comparison, as CPD (p. 6-65): the codes of a result, and every register as it was
 abbrev pub compared : State → Word → State
 compared s r = withFlags s (r .flags)
 
--- SUBD to LDS: the state after the operation with the word m; the last is LDS
+-- The state after the operation with the word m: SUBD (p. 6-195), ADDD (6-15), CPD (6-65), CPY (6-68), CPX (6-67), CPS (6-66),
+-- LDD (6-124), LDY (6-127), LDX (6-126), and the last LDS (6-125)
 unfoldable pub worded : ℕ → State → ℕ → State
 worded kind s m =
     pick (eqb kind SUBD) (dResult s (subWord (s .flags) (dOf s) m))
@@ -63,14 +64,14 @@ withWordEffect s m d =
     let place = operandPlace s m (d .mode) (d .at) in
     wordWith (place .state) (d .kind) (wordAt m (place .address)) (d .cost)
 
--- a store: the byte or word, with N and Z of it and V 0
+-- a store, as STAA (p. 6-186) and STD (6-188): the byte or word, with N and Z of it and V 0
 abbrev pub byteStored : State → ℕ → ℕ → ℕ → Effect
 byteStored s cost a v = writes (withFlags s (resultCodes 7 (s .flags) v)) cost (storeByte a v)
 
 abbrev pub wordStored : State → ℕ → ℕ → ℕ → Effect
 wordStored s cost a v = writes (withFlags s (resultCodes 15 (s .flags) v)) cost (storeWord a v)
 
--- STAA, STAB, STD, STY, STX, and the last STS, at the address a
+-- STAA (p. 6-186), STAB (6-187), STD (6-188), STY (6-192), STX (6-191), and the last STS (6-190), at the address a
 unfoldable pub stored : ℕ → State → ℕ → ℕ → Effect
 stored kind s cost a =
     pick (eqb kind STAA) (byteStored s cost a (s .a))
@@ -91,7 +92,8 @@ byteChosen s cost a r = writes (withFlags s (r .flags)) cost (storeByte a (r .va
 abbrev pub wordChosen : State → ℕ → ℕ → Word → Effect
 wordChosen s cost a r = writes (withFlags s (r .flags)) cost (storeWord a (r .value))
 
--- MAXA to EMINM: the larger or smaller of a register and the operand at the address a; the last is EMINM
+-- The larger or smaller of a register and the operand at the address a: MAXA (p. 6-139), MINA (6-142), EMAXD (6-81), EMIND (6-83),
+-- MAXM (6-140), MINM (6-143), EMAXM (6-82), and the last EMINM (6-84)
 unfoldable pub chosen : ℕ → State → List ℕ → ℕ → ℕ → Effect
 chosen kind s m cost a =
     pick (eqb kind MAXA) (quiet (aResult s (maxByte (s .flags) (s .a) (byteAt m a))) cost)

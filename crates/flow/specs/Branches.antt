@@ -21,14 +21,14 @@ use Rattle.effect.specs.Effect.{quiet}
 abbrev pub branched : State → Bool → ℕ → ℕ → ℕ → Effect
 branched s taken offset cost untaken = pick taken (quiet (withPc s (plusW (s .pc) offset)) cost) (quiet s untaken)
 
--- BRA to BLE: n is an offset of 8 bits
+-- BRA (p. 6-44) to BLE (6-37), by the conditions of crate codes: n is an offset of 8 bits
 abbrev pub shortBranched : State → ℕ → ℕ → ℕ → ℕ → Effect
 shortBranched s kind n cost untaken = branched s (conditionOf (s .flags) (memberOf kind)) (extend8 n) cost untaken
 
 unfoldable pub shortEffect : State → List ℕ → Decoded → Effect
 shortEffect s m d = shortBranched s (d .kind) (byteAt m (d .at)) (d .cost) (d .untaken)
 
--- LBRA to LBLE: an offset of 16 bits
+-- LBRA (p. 6-118) to LBLE (6-111), by the same conditions: an offset of 16 bits
 abbrev pub longBranched : State → ℕ → ℕ → ℕ → ℕ → Effect
 longBranched s kind offset cost untaken = branched s (conditionOf (s .flags) (memberOf kind)) offset cost untaken
 
@@ -43,6 +43,7 @@ byteLooped s offset cost t = branched s (t .taken) offset cost cost
 abbrev pub wordLooped : State → ℕ → ℕ → Count16 → Effect
 wordLooped s offset cost t = branched s (t .taken) offset cost cost
 
+-- DBEQ (p. 6-70), DBNE (6-71), TBEQ (6-200), TBNE (6-202), IBEQ (6-92), IBNE (6-93) on a counter; the cost is the same either way
 unfoldable pub looped : ℕ → State → ℕ → ℕ → ℕ → Effect
 looped counter s kind offset cost =
     pick (eqb counter 0) (byteLooped (withA s (countByte kind (s .a) .counter)) offset cost (countByte kind (s .a)))

@@ -1,5 +1,5 @@
 -- Subroutines, returns, waiting and loops: what changes the flow and has no operand in memory, without SWI and TRAP, whose vectors are
--- the machine's. The glossary of 002 (section 6.6), the page of the instruction that is named.
+-- the machine's. The glossary of 002 (section 6.6), on the page that is named beside the instruction.
 use Prim.Native.Nat.{ℕ}
 use mathlib.Core.List.{List}
 use lib.Dec.{eqb}
@@ -14,7 +14,7 @@ use Rattle.stack.specs.Stack.{subroutineEffect, returnEffect}
 use Rattle.frames.specs.Frames.{waitEffect, pulledFrame}
 use Rattle.flow.specs.Branches.{loopEffect}
 
--- BSR, RTS, RTI, WAI, and the last LOOP
+-- BSR (p. 6-49), RTS (6-178), RTI (6-177), WAI (6-213), and the last LOOP, the six loop primitives
 unfoldable pub controlEffect : State → List ℕ → Decoded → Effect
 controlEffect s m d =
     pick (eqb (d .kind) BSR) (subroutineEffect s (d .cost) (plusW (s .pc) (extend8 (byteAt m (d .at)))))

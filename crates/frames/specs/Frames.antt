@@ -20,17 +20,17 @@ frameOf s =
 abbrev pub frameStore : State → Store
 frameStore s = storeNine (minusW (s .sp) 9) (frameOf s)
 
--- An entry by a vector: the vector's word is read from the memory before the frame is pushed. The frame has the condition codes as they
--- were; the entry leaves those that are given, in which I is set.
+-- An entry by a vector, as SWI (p. 6-196) and TRAP (6-205): the vector's word is read from the memory before the frame is pushed. The
+-- frame has the condition codes as they were; the entry leaves those that are given, in which I is set.
 unfoldable pub interruptEffect : State → List ℕ → ℕ → Flags → ℕ → Effect
 interruptEffect s m vector after cost =
     writes (withPc (withFlags (withSp s (minusW (s .sp) 9)) after) (wordAt m vector)) cost (frameStore s)
 
--- WAI: the same frame, and the machine waits
+-- WAI (p. 6-213): the same frame, and the machine waits
 unfoldable pub waitEffect : State → ℕ → Effect
 waitEffect s cost = writes (withWaiting (withSp s (minusW (s .sp) 9)) true) cost (frameStore s)
 
--- RTI: the frame is pulled, CCR under the rule for X (002, p. 6-177)
+-- RTI (p. 6-177): the frame is pulled, CCR under the rule for X
 unfoldable pub pulledFrame : State → List ℕ → State
 pulledFrame s m =
     withPc

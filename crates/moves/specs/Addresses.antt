@@ -1,4 +1,4 @@
--- What takes the operand's address alone. The glossary of 002 (section 6.6), the page of the instruction that is named. No code is
+-- What takes the operand's address alone. The glossary of 002 (section 6.6), on the page that is named beside the instruction. No code is
 -- affected.
 use Prim.Native.Nat.{ℕ}
 use mathlib.Core.List.{List}
@@ -13,8 +13,9 @@ use Rattle.effect.specs.declared.Effect.{Effect}
 use Rattle.effect.specs.Effect.{quiet}
 use Rattle.stack.specs.Stack.{subroutineEffect}
 
--- LEAY, LEAX, LEAS: the address a goes to the register after the base register's update. JMP: PC is the address. JSR, the last: the
--- address and the base register's update come first, and the push goes by the updated SP.
+-- LEAY (p. 6-130), LEAX (6-129), LEAS (6-128): the address a goes to the register after the base register's update; ABX (6-9),
+-- ABY (6-10), DES (6-75), INS (6-99) are LEAX B,X, LEAY B,Y, LEAS -1,SP and LEAS 1,SP. JMP (6-102): PC is the address. JSR (6-103), the
+-- last: the address and the base register's update come first, and the push goes by the updated SP.
 unfoldable pub addressed : State → ℕ → ℕ → ℕ → Effect
 addressed s kind a cost =
     pick (eqb kind LEAY) (quiet (withY s a) cost)

@@ -1,5 +1,5 @@
--- Bits of memory, changed or tested for a branch. The glossary of 002 (section 6.6), the page of the instruction that is named. PC of
--- the state is the address after the whole instruction, and the mask is its last byte, or the last but one before an offset of 8 bits.
+-- Bits of memory, changed or tested for a branch. The glossary of 002 (section 6.6), on the page that is named beside the instruction. PC
+-- of the state is the address after the whole instruction, and the mask is its last byte, or the last but one before an offset of 8 bits.
 use Prim.Native.Nat.{ℕ}
 use mathlib.Core.Bool.{Bool, true, false}
 use mathlib.Core.List.{List}
@@ -16,13 +16,13 @@ use Rattle.effect.specs.declared.Effect.{Effect}
 use Rattle.effect.specs.Effect.{writes}
 use Rattle.flow.specs.Branches.{branched}
 
--- BSET, and else BCLR, of the byte v at the address a
+-- BSET (p. 6-48), and else BCLR (6-27), of the byte v at the address a
 unfoldable pub bitsChanged : State → Bool → ℕ → ℕ → ℕ → ℕ → Effect
 bitsChanged s set mask v a cost =
     let r = pick set (orByte (s .flags) v mask) (bclrByte (s .flags) v mask) in
     writes (withFlags s (r .flags)) cost (storeByte a (r .value))
 
--- BRSET, and else BRCLR, of the byte v; n is the offset, and the cost is the same either way
+-- BRSET (p. 6-47), and else BRCLR (6-45), of the byte v; n is the offset, and the cost is the same either way
 abbrev pub bitsBranched : State → Bool → ℕ → ℕ → ℕ → ℕ → Effect
 bitsBranched s set mask n v cost = branched s (pick set (allSet v mask) (allClear v mask)) (extend8 n) cost cost
 

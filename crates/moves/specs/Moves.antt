@@ -1,4 +1,4 @@
--- Moves. The glossary of 002 (section 6.6), the pages of MOVB and MOVW. No code is affected.
+-- Moves, from the glossary of 002 (section 6.6). No code is affected.
 use mathlib.Core.Bool.{true, false}
 use mathlib.Core.List.{List}
 use Prim.Native.Nat.{ℕ}
@@ -12,11 +12,13 @@ use Rattle.decode.specs.declared.Decoded.{Decoded}
 use Rattle.effect.specs.declared.Effect.{Effect}
 use Rattle.effect.specs.Effect.{writes}
 
+-- MOVB (p. 6-144)
 unfoldable pub byteMoveEffect : State → List ℕ → Decoded → Effect
 byteMoveEffect s m d =
     let route = routeOf s m (d .mode) (d .at) false in
     writes (route .state) (d .cost) (storeByte (route .target) (byteAt m (route .source)))
 
+-- MOVW (p. 6-145)
 unfoldable pub wordMoveEffect : State → List ℕ → Decoded → Effect
 wordMoveEffect s m d =
     let route = routeOf s m (d .mode) (d .at) true in

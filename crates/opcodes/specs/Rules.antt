@@ -12,7 +12,8 @@ use Rattle.opcodes.specs.Grid.{gridAt, NONE}
 use Rattle.opcodes.specs.Map.{cellOf}
 use Rattle.opcodes.specs.Postbyte.{IDX, formOf, indexedOf, reservedOf, lengthOf, costOf, untakenOf}
 
--- the kinds that stop the machine are the first of the numbering, up to STOP
+-- the kinds that stop the machine are the first of the numbering, up to STOP: BGND (002, p. 6-31), MEM (6-141), RTC (6-176), wavr (9-23),
+-- CALL (6-52), REV (6-166), REVW (6-168), WAV (6-214), STOP (6-189)
 abbrev pub stopsOf : Cell → Bool
 stopsOf c = leb (c .kind) STOP
 
@@ -85,7 +86,7 @@ EveryInstruction =
     reservedOf (cellOf k) postbyte ≡ false →
     Bounded k postbyte
 
--- the modes of a move, where from and where to (002, the pages of MOVB and MOVW)
+-- the modes of a move, where from and where to, by the pages of MOVB (002, p. 6-144) and MOVW (6-145)
 abbrev pub movesMode : ℕ → Bool
 movesMode mode = among mode (IM-EX ∷ EX-EX ∷ IM-ID ∷ EX-ID ∷ ID-ID ∷ ID-EX ∷ [])
 

@@ -15,15 +15,16 @@ use Rattle.quotient.specs.Divide.{magnitudeOf}
 abbrev pub longResult : ℕ → (ℕ → Flags) → Long
 longResult r codes = record { value = r; flags = codes r }
 
--- MUL: (A) × (B). C: R7, bit 7 of the result; no other code is affected
+-- MUL (p. 6-146): (A) × (B). C: R7, bit 7 of the result; no other code is affected
 abbrev pub mulWord : Flags → ℕ → ℕ → Word
 mulWord f a b = wideOf (a * b) (λ r. setC f (bitOf 7 r))
 
--- N: MSB of the result. Z: the result is $00000000. C: bit 15 of the result. V is not affected. Pages of EMUL, EMULS
+-- The codes of EMUL (p. 6-85) and EMULS (6-86). N: MSB of the result. Z: the result is $00000000. C: bit 15 of the result. V is not
+-- affected.
 abbrev pub productCodes : Flags → ℕ → Flags
 productCodes f r = setC (setZ (setN f (bitOf 31 r)) (eqb r 0)) (bitOf 15 r)
 
--- EMUL: (D) × (Y), unsigned
+-- EMUL (p. 6-85): (D) × (Y), unsigned
 abbrev pub emulLong : Flags → ℕ → ℕ → Long
 emulLong f d y = longResult (d * y) (productCodes f)
 
@@ -31,16 +32,16 @@ emulLong f d y = longResult (d * y) (productCodes f)
 abbrev pub signedProduct : ℕ → ℕ → ℕ
 signedProduct x y = extend16 x * extend16 y % 4294967296
 
--- EMULS: (D) × (Y), signed
+-- EMULS (p. 6-86): (D) × (Y), signed
 abbrev pub emulsLong : Flags → ℕ → ℕ → Long
 emulsLong f d y = longResult (signedProduct d y) (productCodes f)
 
--- The codes of EMACS; I is the intermediate result, M the accumulator before, R after.
--- V: M31 · I31 · R̄31 + M̄31 · Ī31 · R31. C: M15 · I15 + I15 · R̄15 + R̄15 · M15, a carry from bit 15
+-- The codes of EMACS (p. 6-80); I is the intermediate result, M the accumulator before, R after. V: M31 · I31 · R̄31 + M̄31 · Ī31 · R31.
+-- C: M15 · I15 + I15 · R̄15 + R̄15 · M15, a carry from bit 15
 abbrev pub emacsCodes : Flags → ℕ → ℕ → ℕ → Flags
 emacsCodes f m i r = setNZVC f (bitOf 31 r) (eqb r 0) (sumOverflow 31 m i r) (carried 15 m i r)
 
--- EMACS: the signed product of the two operands, and the accumulator
+-- EMACS (p. 6-80): the signed product of the two operands, and the accumulator
 abbrev pub emacsLong : Flags → ℕ → ℕ → ℕ → Long
 emacsLong f x y m = longResult ((m + signedProduct x y) % 4294967296) (emacsCodes f m (signedProduct x y))
 

@@ -1,5 +1,5 @@
--- Multiplication and division. The glossary of 002 (section 6.6), the page of the instruction that is named,
--- says which registers hold the operands and the result.
+-- Multiplication and division. The glossary of 002 (section 6.6), on the page that is named beside the instruction, says which registers
+-- hold the operands and the result.
 use Prim.Native.Nat.{ℕ}
 use mathlib.Core.List.{List}
 use lib.Dec.{eqb}
@@ -28,7 +28,8 @@ xdResult s r = withFlags (withD (withX s (r .quotient)) (r .remainder)) (r .flag
 abbrev pub ydDivided : State → Division → State
 ydDivided s r = withFlags (withD (withY s (r .quotient)) (r .remainder)) (r .flags)
 
--- MUL to FDIV, which is the last, without EMACS: those without an operand in memory
+-- MUL (p. 6-146), EMUL (6-85), EMULS (6-86), EDIV (6-78), EDIVS (6-79), IDIV (6-94), IDIVS (6-95), and the last FDIV (6-91): those
+-- without an operand in memory
 unfoldable pub multiplied : ℕ → State → State
 multiplied kind s =
     pick (eqb kind MUL) (dResult s (mulWord (s .flags) (s .a) (s .b)))
@@ -40,7 +41,7 @@ multiplied kind s =
     (pick (eqb kind IDIVS) (xdResult s (idivsOf (s .flags) (dOf s) (s .x)))
     (xdResult s (fdivOf (s .flags) (dOf s) (s .x)))))))))
 
--- EMACS: the words at X and at Y, and the four bytes at the address after the opcode, high byte first
+-- EMACS (p. 6-80): the words at X and at Y, and the four bytes at the address after the opcode, high byte first
 unfoldable pub accumulateEffect : State → List ℕ → ℕ → ℕ → Effect
 accumulateEffect s m cost a =
     let r = emacsLong (s .flags) (wordAt m (s .x)) (wordAt m (s .y)) (longOf (wordAt m a) (wordAt m (plusW a 2))) in

@@ -11,24 +11,24 @@ use Rattle.state.specs.Ccr.{setZ, setV, setC}
 use Rattle.results.specs.Results.{setNZVC, exclusiveOr}
 use Rattle.quotient.specs.declared.Division.{Division}
 
--- X̄k · .. · X̄1 · X̄0: the divisor was zero. C of every division
+-- X̄k · .. · X̄1 · X̄0: the divisor was zero. C of every division, as on the page of IDIV (p. 6-94)
 abbrev pub noneSet : ℕ → ℕ → Bool
 noneSet zero x = not (bitOf 0 x)
 noneSet (suc k) x = not (bitOf (suc k) x) && noneSet k x
 
--- the codes of IDIV and FDIV. Z: the quotient is $0000. C: the divisor was $0000. N is not affected
+-- the codes of IDIV (p. 6-94) and FDIV (6-91). Z: the quotient is $0000. C: the divisor was $0000. N is not affected
 abbrev pub unsigned : Flags → ℕ → Bool → ℕ → ℕ → Division
 unsigned f x v q r = record { quotient = q; remainder = r; flags = setC (setV (setZ f (eqb q 0)) v) (noneSet 15 x) }
 
--- IDIV: (D) ÷ (X), unsigned; by zero the quotient is $FFFF and the remainder indeterminate. V: 0
+-- IDIV (p. 6-94): (D) ÷ (X), unsigned; by zero the quotient is $FFFF and the remainder indeterminate. V: 0
 abbrev pub idivOf : Flags → ℕ → ℕ → Division
 idivOf f d x = unsigned f x false (pick (noneSet 15 x) 65535 (d / x)) (pick (noneSet 15 x) d (d % x))
 
--- FDIV: (D) × 2 to the 16th ÷ (X); where X ≤ D, and so by zero too, the quotient is $FFFF and the remainder indeterminate. V: X ≤ D
+-- FDIV (p. 6-91): (D) × 2 to the 16th ÷ (X); where X ≤ D, so by zero too, the quotient is $FFFF, the remainder indeterminate. V: X ≤ D
 abbrev pub fdivOf : Flags → ℕ → ℕ → Division
 fdivOf f d x = unsigned f x (leb x d) (pick (leb x d) 65535 (d * 65536 / x)) (pick (leb x d) d (d * 65536 % x))
 
--- The three outcomes of IDIVS, EDIV and EDIVS.
+-- The three outcomes of IDIVS (p. 6-95), EDIV (6-78) and EDIVS (6-79).
 
 -- by zero: C: 1; the registers do not change, and N, Z and V are undefined
 abbrev pub byZero : Flags → ℕ → ℕ → Division
@@ -42,7 +42,7 @@ tooLarge f q r = record { quotient = q; remainder = r; flags = setC (setV f true
 abbrev pub divided : Flags → ℕ → ℕ → Division
 divided f q r = record { quotient = q; remainder = r; flags = setNZVC f (bitOf 15 q) (eqb q 0) false false }
 
--- EDIV: (Y : D) ÷ (X), unsigned; V where the quotient is over $FFFF
+-- EDIV (p. 6-78): (Y : D) ÷ (X), unsigned; V where the quotient is over $FFFF
 abbrev pub edivOf : Flags → ℕ → ℕ → ℕ → Division
 edivOf f y d x =
     pick (noneSet 15 x) (byZero f y d)
@@ -68,11 +68,11 @@ signedDivision f q d negative n x =
     (pick (outside (exclusiveOr negative (bitOf 15 x)) (n / magnitudeOf 15 x)) (tooLarge f q d)
     (divided f (signedOf (exclusiveOr negative (bitOf 15 x)) (n / magnitudeOf 15 x)) (signedOf negative (n % magnitudeOf 15 x))))
 
--- IDIVS: (D) ÷ (X), signed; the only overflow is $8000 ÷ $FFFF
+-- IDIVS (p. 6-95): (D) ÷ (X), signed; the only overflow is $8000 ÷ $FFFF
 abbrev pub idivsOf : Flags → ℕ → ℕ → Division
 idivsOf f d x = signedDivision f x d (bitOf 15 d) (magnitudeOf 15 d) x
 
--- EDIVS: (Y : D) ÷ (X), signed
+-- EDIVS (p. 6-79): (Y : D) ÷ (X), signed
 abbrev pub edivsOf : Flags → ℕ → ℕ → ℕ → Division
 edivsOf f y d x = signedDivision f y d (bitOf 15 y) (magnitudeOf 31 (longOf y d)) x
 
@@ -82,7 +82,7 @@ edivsOf f y d x = signedDivision f y d (bitOf 15 y) (magnitudeOf 31 (longOf y d)
 abbrev pub RowNine : Type 0
 RowNine = (f : Flags) (d : ℕ) → idivOf f d 0 ≡ record { quotient = 65535; remainder = d; flags = setC (setV (setZ f false) false) true }
 
--- the page of IDIVS: $8000 ÷ $FFFF is the only overflow; X and D stay
+-- the page of IDIVS (p. 6-95): $8000 ÷ $FFFF is the only overflow; X and D stay
 abbrev pub OnlyOverflow : Type 0
 OnlyOverflow = (f : Flags) → idivsOf f 32768 65535 ≡ tooLarge f 65535 32768
 

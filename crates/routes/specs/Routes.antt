@@ -18,7 +18,7 @@ routeIs source target state = record { source = source; target = target; state =
 abbrev pub dataSize : Bool → ℕ
 dataSize wide = pick wide 2 1
 
--- The moves, by the codings on the pages of MOVB and MOVW. PC as a base is corrected by table 3-3 (002, p. 3-11).
+-- The moves, by the codings on the pages of MOVB (p. 6-144) and MOVW (6-145). PC as a base is corrected by table 3-3 (002, p. 3-11).
 
 -- data and then the destination's address
 abbrev pub immediateToExtended : State → List ℕ → ℕ → Bool → Route

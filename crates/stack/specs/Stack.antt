@@ -23,7 +23,8 @@ wordPushed s cost v = writes (withSp s (minusW (s .sp) 2)) cost (storeWord (minu
 abbrev pub pulled : State → ℕ → ℕ → Effect
 pulled s n cost = quiet (withSp s (plusW (s .sp) n)) cost
 
--- PULX to PSHD, which is the last
+-- PULX (p. 6-164), PULY (6-165), PULA (6-160), PULB (6-161), PSHX (6-158), PSHY (6-159), PSHA (6-154), PSHB (6-155), PULC (6-162),
+-- PSHC (6-156), PULD (6-163), and the last PSHD (6-157)
 unfoldable pub stacked : ℕ → State → List ℕ → ℕ → Effect
 stacked kind s m cost =
     pick (eqb kind PULX) (pulled (withX s (wordAt m (s .sp))) 2 cost)
@@ -41,11 +42,11 @@ stacked kind s m cost =
 unfoldable pub stackEffect : State → List ℕ → Decoded → Effect
 stackEffect s m d = stacked (d .kind) s m (d .cost)
 
--- a subroutine: the return address is pushed, and PC is the subroutine's
+-- a subroutine, of BSR (p. 6-49) and JSR (6-103): the return address is pushed, and PC is the subroutine's
 unfoldable pub subroutineEffect : State → ℕ → ℕ → Effect
 subroutineEffect s cost target =
     writes (withPc (withSp s (minusW (s .sp) 2)) target) cost (storeWord (minusW (s .sp) 2) (s .pc))
 
--- RTS
+-- RTS (p. 6-178): PC is the return address, which is pulled
 unfoldable pub returnEffect : State → List ℕ → ℕ → Effect
 returnEffect s m cost = quiet (withPc (withSp s (plusW (s .sp) 2)) (wordAt m (s .sp))) cost

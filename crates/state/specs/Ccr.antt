@@ -1,4 +1,4 @@
--- The condition code register (source document 002, section 2.1.5, p. 2-2): S X H I N Z V C, from bit 7 to bit 0.
+-- The condition code register (source document 002, section 2.1.5, p. 2-3): S X H I N Z V C, from bit 7 to bit 0.
 use Prim.Native.Nat.{ℕ, _+_, _<_}
 use mathlib.Core.Path.{_≡_}
 use mathlib.Core.Bool.{Bool, true, false, _&&_}

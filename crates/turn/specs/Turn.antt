@@ -32,7 +32,7 @@ use Rattle.turn.specs.declared.Turn.{Turn}
 use Rattle.machine.specs.Names.{swiVector, trapVector, idleCost}
 use Rattle.requests.specs.Requests.{allowedLine, entryEffect, wakeEffect}
 
--- what changes the flow and has no operand in memory, with SWI and the traps, which are entries by a vector and set I
+-- what changes the flow and has no operand in memory, with SWI (002, p. 6-196) and TRAP (6-205), which are entries by a vector and set I
 unfoldable pub controlled : State → List ℕ → Decoded → Effect
 controlled s m d =
     pick (eqb (d .kind) SWI) (interruptEffect s m swiVector (setI (s .flags) true) (d .cost))
