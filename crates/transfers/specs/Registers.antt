@@ -1,6 +1,7 @@
--- TFR, SEX and EXG, from their glossary pages in source document 002 and from the table of their postbytes: rows 0 to 7 of table
--- A-5 in source document 003, which are the pages' own. A postbyte has the register that is named first in bits 6 to 4 and the
--- second in bits 2 to 0; bit 7 is set for EXG, and bit 3 is ignored. The codes: 0 A, 1 B, 2 CCR, 3 reserved, 4 D, 5 X, 6 Y, 7 SP.
+-- TFR, SEX and EXG, from their glossary pages in source document 002 and from its table of their postbytes, A-4 (p. A-24), which decides.
+-- Rows 0 to 7 of source document 003's table A-5 only fill in what the scan of 002 has lost: the registers' names over the columns, and
+-- the second lines of the last row. A postbyte has the register that is named first in bits 6 to 4 and the second in bits 2 to 0; bit 7
+-- is set for EXG, and bit 3 is ignored. The codes: 0 A, 1 B, 2 CCR, 3 reserved, 4 D, 5 X, 6 Y, 7 SP.
 use Prim.Native.Nat.{ℕ, _+_, _/_, _%_, _<_}
 use mathlib.Core.Path.{_≡_}
 use mathlib.Core.Bool.{true}
@@ -46,11 +47,12 @@ abbrev pub moved : State → State → ℕ → ℕ → ℕ → State
 moved s old to from fill =
     pick (leb 4 to) (putWord s to (wordFrom old fill from)) (putByte (old .flags) s to (byteFrom old from))
 
--- SEX: if bit 7 is 0, $00 : r1; if bit 7 is 1, $FF : r1
+-- SEX (p. 6-185): if bit 7 is 0, $00 : r1; if bit 7 is 1, $FF : r1
 abbrev pub signFill : ℕ → ℕ
 signFill b = pick (bitOf 7 b) 255 0
 
--- TFR r1,r2, and SEX, which is TFR from 8 to 16 bits
+-- TFR (p. 6-203), as TFR r1,r2; and SEX (6-185), which is TFR from 8 to 16 bits, TAP (6-198), TPA (6-204), TSX (6-209), TSY (6-210),
+-- TXS (6-211), TYS (6-212), which are TFR with two registers
 abbrev pub tfrOf : State → ℕ → ℕ → State
 tfrOf s r1 r2 = moved s s r2 r1 (signFill (byteFrom s r1))
 
@@ -58,7 +60,8 @@ tfrOf s r1 r2 = moved s s r2 r1 (signFill (byteFrom s r1))
 abbrev pub backFill : ℕ → ℕ
 backFill r2 = pick (eqb r2 0) 0 255
 
--- EXG r1,r2: r1 takes what r2 sends, then r2 takes what r1 sent, each as it was before; a byte goes to 16 bits as $00 : r1
+-- EXG (p. 6-90), as EXG r1,r2: r1 takes what r2 sends, then r2 takes what r1 sent, each as it was before; a byte goes to 16 bits with a
+-- high byte of $00. And XGDX (6-215) and XGDY (6-216), which are EXG D,X and EXG D,Y
 abbrev pub exgOf : State → ℕ → ℕ → State
 exgOf s r1 r2 = moved (moved s s r1 r2 (backFill r2)) s r2 r1 0
 
