@@ -7,3 +7,4 @@ pub mod Masks
 pub mod Boundaries
 pub mod Warning
 pub mod Always
+pub mod Costs

@@ -6,3 +6,4 @@ pub mod Steps
 pub mod Masks
 pub mod Warning
 pub mod Always
+pub mod Costs
