@@ -39,17 +39,18 @@ goes-replies (suc k) s m given left =
     (both Replies (ltb left (turnAt given s m .effect .cost)) _ _ (omega arith)
     (goes-replies k (nextState given s m) (nextMemory given s m) given (left - turnAt given s m .effect .cost)))
 
-refusal-most : (s : State) (m : List ℕ) (given : Given) (budget : ℕ) → runRefusal s m given budget ≤ 5
+-- a refusal is 3 at most
+pub refusal-most : (s : State) (m : List ℕ) (given : Given) (budget : ℕ) → runRefusal s m given budget ≤ 3
 refusal-most s m given budget =
-    both (λ (n : ℕ). n ≤ 5) (not (eqb (length m) memorySize)) _ _ (omega arith)
-    (both (λ (n : ℕ). n ≤ 5) (not (accepted recordLimit (given .cycles) (given .lines))) _ _ (omega arith)
-    (both (λ (n : ℕ). n ≤ 5) (pastLimit (s .clock) budget) _ _ (omega arith) (omega arith)))
+    both (λ (n : ℕ). n ≤ 3) (not (eqb (length m) memorySize)) _ _ (omega arith)
+    (both (λ (n : ℕ). n ≤ 3) (not (accepted recordLimit (given .cycles) (given .lines))) _ _ (omega arith)
+    (both (λ (n : ℕ). n ≤ 3) (pastLimit (s .clock) budget) _ _ (omega arith) (omega arith)))
 
 pub every-run-replies : EveryRunReplies
 unfolding runOf
 every-run-replies s m given budget =
-    both Replies (eqb (runRefusal s m given budget) 0) _ _ (goes-replies (suc budget) s m given budget)
-    (refusal-most s m given budget)
+    let most = refusal-most s m given budget in
+    both Replies (eqb (runRefusal s m given budget) 0) _ _ (goes-replies (suc budget) s m given budget) (omega (arith, most))
 
 -- steps that were done have used a cycle each
 used-by :

@@ -8,3 +8,6 @@ pub mod Boundaries
 pub mod Warning
 pub mod Always
 pub mod Costs
+pub mod Exactly
+pub mod Due
+pub mod Replies

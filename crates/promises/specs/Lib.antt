@@ -7,3 +7,4 @@ pub mod Masks
 pub mod Warning
 pub mod Always
 pub mod Costs
+pub mod Replies
