@@ -59,7 +59,7 @@ no-line : (f : Flags) (line : ℕ) → (ltb (allowedLine f line) 8 ≡ false) �
 unfolding allowedLine
 no-line f line = (λ e. (xirq e, others e), λ none. le-ltb (allowedLine f line) 8 (rw (masked (bitOf 0 line) (f .x) (none .0)) (rest (f .i) (none .1))))
   where
-    -- one of two is below 8, and so the other is not picked
+    -- a line that is up and not masked would be the one to be entered, and it is below 8
     xirq : ltb (allowedLine f line) 8 ≡ false → bitOf 0 line ≡ true → f .x ≡ true
     xirq e up = go (f .x) refl
       where
