@@ -4,6 +4,7 @@ pub mod Store
 pub mod Outcome
 pub mod Steps
 pub mod Masks
+pub mod Plain
 pub mod Warning
 pub mod Always
 pub mod Costs
