@@ -6,6 +6,7 @@ pub mod Steps
 pub mod Masks
 pub mod Boundaries
 pub mod Warning
+pub mod Lines
 pub mod Plain
 pub mod Always
 pub mod Costs

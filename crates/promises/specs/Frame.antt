@@ -2,7 +2,6 @@
 -- byte first. B lies below A.
 use Prim.Native.Nat.{ℕ, _+_, _/_, _%_}
 use mathlib.Core.Path.{_≡_}
-use mathlib.Core.Bool.{Bool}
 use mathlib.Core.List.{List}
 use Rattle.word.specs.Word.{pick, plusW}
 use Rattle.memory.specs.Memory.{byteAt}

@@ -1,8 +1,9 @@
 -- Document 01's rules in plain numbers: its sections "Requests", "Addresses", "Codes and undefined results" and "Traps for the hasty", a
 -- line each. Here a vector is an address, a cost is a number, and a byte of a frame has its place; none of the machine's own names for
 -- them is used. So a machine whose definitions and code were changed together would still be refused. `XStaysClear` (Masks.antt) says
--- that no instruction sets X, `WithinTheBudget` (Steps.antt) that no part of a step is spent, and `BenchRows` (crates/witness) has
--- document 01's own examples. Each theorem is proved under the same name in proofs/Plain.antt.
+-- that no instruction sets X, `ARunIsItsSteps` (Steps.antt) that no part of a step is spent, and `BenchRows` (crates/witness) has
+-- document 01's own examples. The theorems begin with `Every`; each is proved under the same name, those of requests in
+-- proofs/Lines.antt and the others in proofs/Plain.antt.
 use Prim.Native.Nat.{ℕ, _+_, _-_, _*_, _/_, _%_, _<_, _≤_}
 use mathlib.Core.Path.{_≡_}
 use mathlib.Core.Bool.{Bool, true, false, _&&_}
@@ -148,7 +149,7 @@ abbrev pub EveryCost : Type 0
 EveryCost = (s : State) (m : List ℕ) → Costs s m
 
 -- a reset: PC is the word at FFFE; CCR is D0, which is S, X and I; all else is 0
-pub record Started (m : List ℕ) (s : State) : Type 0 where
+pub record AfterReset (m : List ℕ) (s : State) : Type 0 where
   pub pc : s .pc ≡ wordAt m 0xFFFE
   pub ccr : codesByte (s .flags) ≡ 0xD0
   pub a : s .a ≡ 0
@@ -160,15 +161,18 @@ pub record Started (m : List ℕ) (s : State) : Type 0 where
   pub awake : s .standing .waiting ≡ false
 
 abbrev pub EveryReset : Type 0
-EveryReset = (m : List ℕ) → length m ≡ 65536 → Started m (resetOf m)
+EveryReset = (m : List ℕ) → length m ≡ 65536 → AfterReset m (resetOf m)
 
 -- "Addresses".
 
 -- The address that LEAX, 1A, takes by each kind of postbyte; and of those that step X the address that LEAY, 19, takes, and X after it.
--- PC as a base is the address after the whole instruction. An accumulator is added without a sign.
+-- PC as a base is the address after the whole instruction. An accumulator is added without a sign. BRA, 20, counts from the instruction's
+-- end too. PC wraps after NOP, A7, at FFFF; and so does the word that LDX 0,X, EE, reads there, with its high byte at FFFF.
 pub record Addresses (s : State) (m : List ℕ) : Type 0 where
   pub five-most : AtTwo s m 0x1A 0x0F → done s m .state .x ≡ (s .x + 15) % 65536
   pub five-least : AtTwo s m 0x1A 0x10 → done s m .state .x ≡ (s .x + 65536 - 16) % 65536
+  pub nine-most : AtTwo s m 0x1A 0xE0 → byteAt m (plusW (s .pc) 2) ≡ 0xFF → done s m .state .x ≡ (s .x + 255) % 65536
+  pub nine-least : AtTwo s m 0x1A 0xE1 → byteAt m (plusW (s .pc) 2) ≡ 0 → done s m .state .x ≡ (s .x + 65536 - 256) % 65536
   pub a-x : AtTwo s m 0x1A 0xE4 → done s m .state .x ≡ (s .x + s .a) % 65536
   pub b-x : AtTwo s m 0x1A 0xE5 → done s m .state .x ≡ (s .x + s .b) % 65536
   pub d-x : AtTwo s m 0x1A 0xE6 → done s m .state .x ≡ (s .x + (s .a * 256 + s .b)) % 65536
@@ -179,14 +183,12 @@ pub record Addresses (s : State) (m : List ℕ) : Type 0 where
   pub before-minus : AtTwo s m 0x19 0x28 → (done s m .state .y ≡ minusW (s .x) 8) × (done s m .state .x ≡ minusW (s .x) 8)
   pub after-plus : AtTwo s m 0x19 0x37 → (done s m .state .y ≡ s .x) × (done s m .state .x ≡ plusW (s .x) 8)
   pub after-minus : AtTwo s m 0x19 0x38 → (done s m .state .y ≡ s .x) × (done s m .state .x ≡ minusW (s .x) 8)
-  pub branch : AtTwo s m 0x20 0xFE → done s m .state .pc ≡ minusW (plusW (s .pc) 2) 2
+  pub branch : AtTwo s m 0x20 0xFE → done s m .state .pc ≡ s .pc
+  pub pc-wraps : At s m 0xA7 → s .pc ≡ 0xFFFF → done s m .state .pc ≡ 0
+  pub word-wraps : AtTwo s m 0xEE 0x00 → s .x ≡ 0xFFFF → done s m .state .x ≡ byteAt m 0xFFFF * 256 + byteAt m 0
 
 abbrev pub EveryAddress : Type 0
 EveryAddress = (s : State) (m : List ℕ) → Words s → Addresses s m
-
--- a word at FFFF has its high byte there and its low byte at 0
-abbrev pub TheLastWord : Type 0
-TheLastWord = (m : List ℕ) → wordAt m 0xFFFF ≡ byteAt m 0xFFFF * 256 + byteAt m 0
 
 -- "Codes and undefined results", "Traps for the hasty".
 
@@ -228,10 +230,12 @@ EveryCode = (s : State) (m : List ℕ) → Codes s m
 -- IDIV by zero leaves X FFFF, C set and D; an overflow of EDIV, where Y is not below X, sets V and leaves Y and D; DAA with H set and a
 -- low digit past 3, for which its table has no row, leaves A and C; a byte goes to 16 bits with its sign, by TFR A,X
 pub record Undefined (s : State) (m : List ℕ) : Type 0 where
-  pub idiv : AtTwo s m 0x18 0x10 → s .x ≡ 0 → (done s m .state .x ≡ 0xFFFF) × (done s m .state .flags .c ≡ true)
-  pub idiv-d : AtTwo s m 0x18 0x10 → s .x ≡ 0 → (done s m .state .a ≡ s .a) × (done s m .state .b ≡ s .b)
-  pub ediv : At s m 0x11 → 0 < s .x → s .x ≤ s .y → (done s m .state .flags .v ≡ true) × (done s m .state .y ≡ s .y)
-  pub ediv-d : At s m 0x11 → 0 < s .x → s .x ≤ s .y → (done s m .state .a ≡ s .a) × (done s m .state .b ≡ s .b)
+  pub idiv :
+      AtTwo s m 0x18 0x10 → s .x ≡ 0 →
+      (done s m .state .x ≡ 0xFFFF) × (done s m .state .flags .c ≡ true) × (done s m .state .a ≡ s .a) × (done s m .state .b ≡ s .b)
+  pub ediv :
+      At s m 0x11 → 0 < s .x → s .x ≤ s .y →
+      (done s m .state .flags .v ≡ true) × (done s m .state .y ≡ s .y) × (done s m .state .a ≡ s .a) × (done s m .state .b ≡ s .b)
   pub daa : AtTwo s m 0x18 0x07 → s .flags .h ≡ true → 4 ≤ s .a % 16 → (done s m .state .a ≡ s .a) × (done s m .state .flags .c ≡ s .flags .c)
   pub tfr-plus : AtTwo s m 0xB7 0x05 → s .a < 128 → done s m .state .x ≡ s .a
   pub tfr-minus : AtTwo s m 0xB7 0x05 → 128 ≤ s .a → done s m .state .x ≡ 0xFF00 + s .a

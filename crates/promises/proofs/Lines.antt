@@ -1,0 +1,278 @@
+-- The requests in plain numbers, and what is done at PC where the opcode is known. On the definitions alone. Assumes nothing.
+use Prim.Native.Nat.{ℕ, _+_, _-_, _/_, _%_, _^_, _<_}
+use native.Mathlib.Omega.{arith}
+use mathlib.Core.Path.{_≡_, refl, _∙_, ap}
+use mathlib.Core.Bool.{Bool, true, false, _&&_, _||_, not}
+use mathlib.Core.List.{List}
+use lib.Dec.{eqb}
+use lib.ListN.{length}
+use borrow.Author.Tests.{eq-eqb, ne-eqb, lt-ltb}
+use Rattle.word.specs.Word.{pick, plusW, minusW, bitOf}
+use Rattle.memory.specs.Memory.{byteAt, committed}
+use Rattle.memory.proofs.Laws.{store-none}
+use Rattle.state.specs.declared.Flags.{Flags}
+use Rattle.state.specs.declared.State.{State}
+use Rattle.state.specs.State.{withPc}
+use Rattle.opcodes.specs.declared.Cell.{Cell}
+use Rattle.opcodes.specs.Map.{cellOf}
+use Rattle.opcodes.specs.Postbyte.{formOf, reservedOf, costOf}
+use Rattle.opcodes.specs.Rules.{stopsOf}
+use Rattle.decode.specs.declared.Fetched.the-variants.{Stop, Reserved, Instruction}
+use Rattle.decode.specs.Decode.{secondReserved, reservedAt, decodedIs, decodedOf, fetchedOf}
+use Rattle.effect.specs.Effect.{quiet}
+use Rattle.frames.specs.Frames.{frameOf, frameStore, interruptEffect}
+use Rattle.machine.specs.declared.Reply.the-variants.{Done}
+use Rattle.machine.specs.Names.{lineVector}
+use Rattle.requests.specs.Requests.{lowestLine, allowedLine, masked, entryEffect, wakeEffect}
+use Rattle.turn.specs.declared.Turn.{Turn}
+use Rattle.turn.specs.Turn.{turnIs, instructed, turnOf}
+use Rattle.walk.specs.Words.{Words}
+use Rattle.walk.proofs.Registers.{frame-bytes, set-pc}
+use Rattle.word.proofs.Laws.{both}
+use Rattle.promises.specs.Frame.{FrameAt}
+use Rattle.promises.specs.Plain.{At, AtTwo, EnteredBy, WokenBy, Vectors, EveryRequest, EveryEndOfAWait, EveryMaskedRequest, EveryIdleCycle}
+use Rattle.promises.proofs.Boundaries.{nine-stored}
+use Rattle.promises.proofs.Frame.{frame-at}
+
+-- The line that is entered, by the bits that are up.
+
+-- bit 0 is told by the number itself
+undivided : (n : ℕ) → n / 2 ^ 0 ≡ n
+undivided n = omega arith
+
+xirq-allowed : (f : Flags) (line : ℕ) → f .x ≡ false → line % 2 ≡ 1 → allowedLine f line ≡ 0
+unfolding allowedLine
+xirq-allowed f line clear up = rw (undivided line, up, clear)
+
+-- XIRQ is not let through
+xirq-shut : (f : Flags) (line : ℕ) → (f .x ≡ false → line % 2 ≡ 0) → (bitOf 0 line && not (f .x)) ≡ false
+xirq-shut f line shut = go (f .x) refl
+  where
+    go : (x : Bool) → f .x ≡ x → (bitOf 0 line && not x) ≡ false
+    go true is = both-false (bitOf 0 line)
+      where
+        both-false : (b : Bool) → (b && false) ≡ false
+        both-false true = refl
+        both-false false = refl
+    go false is = rw (undivided line, shut is)
+
+other-allowed : (f : Flags) (line : ℕ) → (f .x ≡ false → line % 2 ≡ 0) → f .i ≡ false → allowedLine f line ≡ lowestLine line
+unfolding allowedLine
+other-allowed f line shut clear = rw (xirq-shut f line shut, clear)
+
+lowest-1 : (line : ℕ) → line / 2 % 2 ≡ 1 → lowestLine line ≡ 1
+lowest-1 line up = rw (eq-eqb (line / 2 % 2) 1 up)
+
+lowest-2 : (line : ℕ) → line / 2 % 4 ≡ 2 → lowestLine line ≡ 2
+lowest-2 line up =
+    rw (ne-eqb (line / 2 % 2) 1 (λ e. omega (arith, e, up)), eq-eqb (line / 4 % 2) 1 (omega (arith, up)))
+
+lowest-3 : (line : ℕ) → line / 2 % 8 ≡ 4 → lowestLine line ≡ 3
+lowest-3 line up =
+    rw (
+      ne-eqb (line / 2 % 2) 1 (λ e. omega (arith, e, up)),
+      ne-eqb (line / 4 % 2) 1 (λ e. omega (arith, e, up)),
+      eq-eqb (line / 8 % 2) 1 (omega (arith, up)),
+    )
+
+lowest-4 : (line : ℕ) → line / 2 % 16 ≡ 8 → lowestLine line ≡ 4
+lowest-4 line up =
+    rw (
+      ne-eqb (line / 2 % 2) 1 (λ e. omega (arith, e, up)),
+      ne-eqb (line / 4 % 2) 1 (λ e. omega (arith, e, up)),
+      ne-eqb (line / 8 % 2) 1 (λ e. omega (arith, e, up)),
+      eq-eqb (line / 16 % 2) 1 (omega (arith, up)),
+    )
+
+lowest-5 : (line : ℕ) → line / 2 % 32 ≡ 16 → lowestLine line ≡ 5
+lowest-5 line up =
+    rw (
+      ne-eqb (line / 2 % 2) 1 (λ e. omega (arith, e, up)),
+      ne-eqb (line / 4 % 2) 1 (λ e. omega (arith, e, up)),
+      ne-eqb (line / 8 % 2) 1 (λ e. omega (arith, e, up)),
+      ne-eqb (line / 16 % 2) 1 (λ e. omega (arith, e, up)),
+      eq-eqb (line / 32 % 2) 1 (omega (arith, up)),
+    )
+
+lowest-6 : (line : ℕ) → line / 2 % 64 ≡ 32 → lowestLine line ≡ 6
+lowest-6 line up =
+    rw (
+      ne-eqb (line / 2 % 2) 1 (λ e. omega (arith, e, up)),
+      ne-eqb (line / 4 % 2) 1 (λ e. omega (arith, e, up)),
+      ne-eqb (line / 8 % 2) 1 (λ e. omega (arith, e, up)),
+      ne-eqb (line / 16 % 2) 1 (λ e. omega (arith, e, up)),
+      ne-eqb (line / 32 % 2) 1 (λ e. omega (arith, e, up)),
+      eq-eqb (line / 64 % 2) 1 (omega (arith, up)),
+    )
+
+lowest-7 : (line : ℕ) → line / 2 % 128 ≡ 64 → lowestLine line ≡ 7
+lowest-7 line up =
+    rw (
+      ne-eqb (line / 2 % 2) 1 (λ e. omega (arith, e, up)),
+      ne-eqb (line / 4 % 2) 1 (λ e. omega (arith, e, up)),
+      ne-eqb (line / 8 % 2) 1 (λ e. omega (arith, e, up)),
+      ne-eqb (line / 16 % 2) 1 (λ e. omega (arith, e, up)),
+      ne-eqb (line / 32 % 2) 1 (λ e. omega (arith, e, up)),
+      ne-eqb (line / 64 % 2) 1 (λ e. omega (arith, e, up)),
+      eq-eqb (line / 128 % 2) 1 (omega (arith, up)),
+    )
+
+lowest-none : (line : ℕ) → line / 2 % 128 ≡ 0 → lowestLine line ≡ 8
+lowest-none line up =
+    rw (
+      ne-eqb (line / 2 % 2) 1 (λ e. omega (arith, e, up)),
+      ne-eqb (line / 4 % 2) 1 (λ e. omega (arith, e, up)),
+      ne-eqb (line / 8 % 2) 1 (λ e. omega (arith, e, up)),
+      ne-eqb (line / 16 % 2) 1 (λ e. omega (arith, e, up)),
+      ne-eqb (line / 32 % 2) 1 (λ e. omega (arith, e, up)),
+      ne-eqb (line / 64 % 2) 1 (λ e. omega (arith, e, up)),
+      ne-eqb (line / 128 % 2) 1 (λ e. omega (arith, e, up)),
+    )
+
+-- Each line by its vector, where every line that is to be entered goes by its own.
+vectors :
+    (s : State) (line : ℕ) (Goes : ℕ → Bool → Type 0) →
+    ((k : ℕ) → k < 8 → allowedLine (s .flags) line ≡ k → Goes (lineVector k) (masked k (s .flags) .x)) →
+    Vectors s line Goes
+vectors s line Goes goes =
+    record {
+      xirq = λ clear up. goes 0 (omega arith) (xirq-allowed (s .flags) line clear up);
+      others = λ shut clear.
+          let is = other-allowed (s .flags) line shut clear in (
+            λ up. goes 1 (omega arith) (is ∙ lowest-1 line up),
+            λ up. goes 2 (omega arith) (is ∙ lowest-2 line up),
+            λ up. goes 3 (omega arith) (is ∙ lowest-3 line up),
+            λ up. goes 4 (omega arith) (is ∙ lowest-4 line up),
+            λ up. goes 5 (omega arith) (is ∙ lowest-5 line up),
+            λ up. goes 6 (omega arith) (is ∙ lowest-6 line up),
+            λ up. goes 7 (omega arith) (is ∙ lowest-7 line up),
+          );
+    }
+
+-- Entries by a vector, and the frame that they push.
+
+-- the frame that is stored, by places
+pub framed : (m : List ℕ) (s : State) → Words s → length m ≡ 65536 → FrameAt (committed m (frameStore s)) (minusW (s .sp) 9) s
+framed m s words whole =
+    frame-at _ (minusW (s .sp) 9) s (omega arith)
+    (nine-stored m (minusW (s .sp) 9) (frameOf s) whole (omega arith) refl (frame-bytes words .at))
+
+pub entered-by :
+    (s : State) (m : List ℕ) (line vector cycles stacked : ℕ) (after : Flags) →
+    turnOf s m line ≡ turnIs Done (interruptEffect (withPc s stacked) m vector after cycles) →
+    after .i ≡ true →
+    Words s →
+    stacked < 65536 →
+    length m ≡ 65536 →
+    EnteredBy vector cycles stacked (after .x) s m line
+unfolding interruptEffect
+entered-by s m line vector cycles stacked after is i words inside whole =
+    record {
+      reply = ap (λ (t : Turn). t .reply) is;
+      pc = ap (λ (t : Turn). t .effect .state .pc) is;
+      sp = ap (λ (t : Turn). t .effect .state .sp) is;
+      frame = rw is (framed m (withPc s stacked) (set-pc words inside) whole);
+      i = ap (λ (t : Turn). t .effect .state .flags .i) is ∙ i;
+      x = ap (λ (t : Turn). t .effect .state .flags .x) is;
+      cost = ap (λ (t : Turn). t .effect .cost) is;
+    }
+
+masked-i : (k : ℕ) (f : Flags) → masked k f .i ≡ true
+masked-i k f = both (λ (g : Flags). g .i ≡ true) (eqb k 0) _ _ refl refl
+
+entry-turn :
+    (s : State) (m : List ℕ) (line k : ℕ) → allowedLine (s .flags) line ≡ k → k < 8 → s .standing .waiting ≡ false →
+    turnOf s m line ≡ turnIs Done (interruptEffect s m (lineVector k) (masked k (s .flags)) 9)
+unfolding turnOf entryEffect
+entry-turn s m line k is low awake = rw (is, lt-ltb k 8 low, awake)
+
+wake-turn :
+    (s : State) (m : List ℕ) (line k : ℕ) → allowedLine (s .flags) line ≡ k → k < 8 → s .standing .waiting ≡ true →
+    turnOf s m line ≡ turnIs Done (wakeEffect s m k)
+unfolding turnOf
+wake-turn s m line k is low waits = rw (is, lt-ltb k 8 low, waits)
+
+pub every-request : EveryRequest
+every-request s m line words whole awake =
+    vectors s line (λ vector x. EnteredBy vector 9 (s .pc) x s m line)
+    (λ k low is.
+    entered-by s m line (lineVector k) 9 (s .pc) (masked k (s .flags)) (entry-turn s m line k is low awake)
+    (masked-i k (s .flags)) words (words .pc) whole)
+
+pub every-end-of-a-wait : EveryEndOfAWait
+unfolding wakeEffect
+every-end-of-a-wait s m line waits =
+    vectors s line (λ vector x. WokenBy vector x s m line)
+    (λ k low is.
+    let turn = wake-turn s m line k is low waits in
+    record {
+      reply = ap (λ (t : Turn). t .reply) turn;
+      pc = ap (λ (t : Turn). t .effect .state .pc) turn;
+      sp = ap (λ (t : Turn). t .effect .state .sp) turn;
+      memory = ap (λ (t : Turn). committed m (t .effect .store)) turn ∙ store-none m;
+      awake = ap (λ (t : Turn). t .effect .state .standing .waiting) turn;
+      i = ap (λ (t : Turn). t .effect .state .flags .i) turn ∙ masked-i k (s .flags);
+      x = ap (λ (t : Turn). t .effect .state .flags .x) turn;
+      cost = ap (λ (t : Turn). t .effect .cost) turn;
+    })
+
+-- none is let through
+none-allowed : (f : Flags) (line : ℕ) → (f .x ≡ false → line % 2 ≡ 0) → (f .i ≡ false → line / 2 % 128 ≡ 0) → allowedLine f line ≡ 8
+unfolding allowedLine
+none-allowed f line shut none = rw (xirq-shut f line shut) (go (f .i) refl)
+  where
+    go : (i : Bool) → f .i ≡ i → pick i 8 (lowestLine line) ≡ 8
+    go true is = refl
+    go false is = lowest-none line (none is)
+
+none-up : (f : Flags) → allowedLine f 0 ≡ 8
+none-up f = none-allowed f 0 (λ _. refl) (λ _. refl)
+
+pub every-masked-request : EveryMaskedRequest
+unfolding turnOf
+every-masked-request s m line shut none = rw (none-allowed (s .flags) line shut none, none-up (s .flags))
+
+pub every-idle-cycle : EveryIdleCycle
+unfolding turnOf
+every-idle-cycle s m waits =
+    let turn : turnOf s m 0 ≡ turnIs Done (quiet s 1) = rw (none-up (s .flags), waits) in
+    (ap (λ (t : Turn). t .effect .cost) turn, ap (λ (t : Turn). t .effect .state) turn, ap (λ (t : Turn). committed m (t .effect .store)) turn ∙ store-none m)
+
+-- What is done at PC, where the opcode is known.
+
+-- a cell's instruction, with the first byte after its opcode
+abbrev pub cellTurn : State → List ℕ → Cell → ℕ → Turn
+cellTurn s m c at =
+    instructed s m (pick (stopsOf c) Stop (pick (reservedAt m c at) Reserved (Instruction (decodedOf m (s .pc) c at))))
+
+at-pc : (s : State) (m : List ℕ) → s .standing .waiting ≡ false → turnOf s m 0 ≡ instructed s m (fetchedOf m (s .pc))
+unfolding turnOf
+at-pc s m awake = rw (none-up (s .flags), awake)
+
+fetched-one : (m : List ℕ) (pc opcode : ℕ) → byteAt m pc ≡ opcode → eqb opcode 0x18 ≡ false → fetchedOf m pc ≡ pick (stopsOf (cellOf opcode)) Stop (pick (reservedAt m (cellOf opcode) (plusW pc 1)) Reserved (Instruction (decodedOf m pc (cellOf opcode) (plusW pc 1))))
+unfolding fetchedOf
+fetched-one m pc opcode is one = rw (is, one)
+
+fetched-two : (m : List ℕ) (pc opcode : ℕ) → byteAt m pc ≡ 0x18 → byteAt m (plusW pc 1) ≡ opcode → fetchedOf m pc ≡ pick (stopsOf (cellOf (256 + opcode))) Stop (pick (reservedAt m (cellOf (256 + opcode)) (plusW pc 2)) Reserved (Instruction (decodedOf m pc (cellOf (256 + opcode)) (plusW pc 2))))
+unfolding fetchedOf
+fetched-two m pc opcode is second = rw (is, second)
+
+pub turn-one : (s : State) (m : List ℕ) (opcode : ℕ) → At s m opcode → eqb opcode 0x18 ≡ false → turnOf s m 0 ≡ cellTurn s m (cellOf opcode) (plusW (s .pc) 1)
+turn-one s m opcode at one = at-pc s m (at .0) ∙ ap (instructed s m) (fetched-one m (s .pc) opcode (at .1) one)
+
+pub turn-two : (s : State) (m : List ℕ) (opcode : ℕ) → AtTwo s m 0x18 opcode → turnOf s m 0 ≡ cellTurn s m (cellOf (256 + opcode)) (plusW (s .pc) 2)
+turn-two s m opcode at = at-pc s m (at .0 .0) ∙ ap (instructed s m) (fetched-two m (s .pc) opcode (at .0 .1) (at .1))
+
+-- the same where the byte after the opcode is known too
+abbrev pub postbyteTurn : State → List ℕ → Cell → ℕ → Turn
+postbyteTurn s m c p =
+    instructed s m
+    (pick (stopsOf c) Stop
+    (pick (reservedOf c p || secondReserved m c (plusW (s .pc) 1)) Reserved
+    (Instruction (decodedIs (s .pc) c (plusW (s .pc) 1) p (formOf p) (costOf c p)))))
+
+pub turn-postbyte : (s : State) (m : List ℕ) (opcode p : ℕ) → AtTwo s m opcode p → eqb opcode 0x18 ≡ false → turnOf s m 0 ≡ postbyteTurn s m (cellOf opcode) p
+turn-postbyte s m opcode p at one = turn-one s m opcode (at .0) one ∙ ap of (at .1)
+  where
+    of : ℕ → Turn
+    of q = postbyteTurn s m (cellOf opcode) q
