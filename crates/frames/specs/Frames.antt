@@ -1,5 +1,6 @@
 -- The frame of an interrupt: pushed by an entry and by WAI, pulled by RTI. SP points at the last byte that was pushed (002, 2.1.3, p. 2-2).
-use Prim.Native.Nat.{ℕ}
+use Prim.Native.Nat.{ℕ, _/_, _%_}
+use mathlib.Core.Path.{_≡_}
 use mathlib.Core.Bool.{true}
 use mathlib.Core.List.{List, [], _∷_}
 use Rattle.word.specs.Word.{highOf, lowOf, plusW, minusW}
@@ -41,3 +42,14 @@ pulledFrame s m =
     (wordAt m (plusW (s .sp) 3)))
     (wordAt m (plusW (s .sp) 5)))
     (wordAt m (plusW (s .sp) 7))
+
+-- The frame by its places, pushed and pulled, so that it cannot be changed here and in the code together (document 01, "Requests", "Traps
+-- for the hasty": B lies below A). Proved as `by-places` in proofs/Laws.antt.
+pub record ByPlaces (s : State) (m : List ℕ) : Type 0 where
+  pub b : byteAt (frameOf s) 1 ≡ s .b
+  pub a : byteAt (frameOf s) 2 ≡ s .a
+  pub x : (byteAt (frameOf s) 3 ≡ s .x / 256) × (byteAt (frameOf s) 4 ≡ s .x % 256)
+  pub y : (byteAt (frameOf s) 5 ≡ s .y / 256) × (byteAt (frameOf s) 6 ≡ s .y % 256)
+  pub pc : (byteAt (frameOf s) 7 ≡ s .pc / 256) × (byteAt (frameOf s) 8 ≡ s .pc % 256)
+  pub b-again : pulledFrame s m .b ≡ byteAt m (plusW (s .sp) 1)
+  pub a-again : pulledFrame s m .a ≡ byteAt m (plusW (s .sp) 2)

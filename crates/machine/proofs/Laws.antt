@@ -1,4 +1,4 @@
--- The replies and their numbers. Assumes nothing.
+-- The replies and their numbers, and the machine's numbers. Assumes nothing.
 use Prim.Native.Nat.{ℕ, _≤_}
 use native.Mathlib.Omega.{arith}
 use mathlib.Core.Path.{_≡_, refl, sym, _∙_, ap}
@@ -6,7 +6,7 @@ use lib.Dec.{eqb}
 use Rattle.word.specs.Word.{pick}
 use Rattle.machine.specs.declared.Reply.{Reply}
 use Rattle.machine.specs.declared.Reply.the-variants.{Done, WrongMemory, WrongSchedule, PastLimit, Stopped, ReservedPostbyte}
-use Rattle.machine.specs.Names.{numberOf}
+use Rattle.machine.specs.Names.{numberOf, InNumbers}
 
 -- the reply of a number
 replyOf : ℕ → Reply
@@ -39,3 +39,6 @@ number-most WrongSchedule = omega arith
 number-most PastLimit = omega arith
 number-most Stopped = omega arith
 number-most ReservedPostbyte = omega arith
+
+pub in-numbers : InNumbers
+in-numbers = record { vectors = refl; costs = refl; limits = refl }

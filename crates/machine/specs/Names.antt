@@ -1,5 +1,7 @@
 -- The numbers that document 01 gives to the machine, each named here once.
 use Prim.Native.Nat.{ℕ, _-_, _*_}
+use mathlib.Core.Path.{_≡_}
+use mathlib.Core.List.{List, [], _∷_}
 use Rattle.machine.specs.declared.Reply.{Reply}
 use Rattle.machine.specs.declared.Reply.the-variants.{Done, WrongMemory, WrongSchedule, PastLimit, Stopped, ReservedPostbyte}
 
@@ -52,3 +54,13 @@ wakeCost = 6
 
 abbrev pub idleCost : ℕ
 idleCost = 1
+
+-- All of them in plain numbers, so that none can be changed here and in the code together. Proved as `in-numbers` in proofs/Laws.antt.
+pub record InNumbers : Type 0 where
+  -- from FFE6 upward, at every second address, the vectors of the lines 7 to 0, of SWI and of the traps; and that of reset
+  pub vectors :
+      lineVector 7 ∷ lineVector 6 ∷ lineVector 5 ∷ lineVector 4 ∷ lineVector 3 ∷ lineVector 2 ∷ lineVector 1 ∷ lineVector 0 ∷ swiVector ∷ trapVector ∷ resetVector ∷ []
+      ≡ 0xFFE6 ∷ 0xFFE8 ∷ 0xFFEA ∷ 0xFFEC ∷ 0xFFEE ∷ 0xFFF0 ∷ 0xFFF2 ∷ 0xFFF4 ∷ 0xFFF6 ∷ 0xFFF8 ∷ 0xFFFE ∷ []
+  -- an entry costs as much as SWI, the end of a wait six letters, an idle cycle one
+  pub costs : entryCost ∷ wakeCost ∷ idleCost ∷ [] ≡ 9 ∷ 6 ∷ 1 ∷ []
+  pub limits : memorySize ∷ recordLimit ∷ budgetLimit ∷ clockLimit ∷ stepLimit ∷ [] ≡ 65536 ∷ 64 ∷ 100000000 ∷ 4000000000 ∷ 3999999900 ∷ []
