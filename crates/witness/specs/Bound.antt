@@ -1,8 +1,7 @@
 -- The bound of the warning is reached: 21 cannot be made smaller. Proved under the same names in proofs/Bound.antt.
 use Prim.Native.Nat.{ℕ, _+_}
 use mathlib.Core.Path.{_≡_}
-use mathlib.Core.List.{List, [], _∷_, _++_}
-use lib.ListN.{replicate}
+use mathlib.Core.List.{List, [], _∷_}
 use Rattle.state.specs.State.{noState, withPc, withClock}
 use Rattle.machine.specs.Reset.{resetOf}
 use Rattle.memory.specs.Memory.{AreBytes}
@@ -10,16 +9,16 @@ use Rattle.refusals.specs.Given.{Given, givenIs}
 use Rattle.refusals.specs.Refusals.{runRefusal}
 use Rattle.promises.specs.Steps.{afterSteps}
 use Rattle.promises.specs.Warning.{stateAt, Rises}
+use Rattle.witness.specs.Image.{bytesAt, image}
 
 -- An image: ANDCC #BF, which clears X, and EMACS 2000 at 4000; the XIRQ vector is 5000, the reset vector 4000. Numbers are hexadecimal.
 unfoldable pub slowest : List ℕ
 slowest =
-    replicate 0x4000 0
-    ++ (0x10 ∷ 0xBF ∷ 0x18 ∷ 0x12 ∷ 0x20 ∷ 0x00 ∷ [])
-    ++ replicate 0xBFEE 0
-    ++ (0x50 ∷ 0x00 ∷ [])
-    ++ replicate 8 0
-    ++ (0x40 ∷ 0x00 ∷ [])
+    image
+    (bytesAt 0x4000 (0x10 ∷ 0xBF ∷ 0x18 ∷ 0x12 ∷ 0x20 ∷ 0x00 ∷ [])
+    ∷ bytesAt 0xFFF4 (0x50 ∷ 0x00 ∷ [])
+    ∷ bytesAt 0xFFFE (0x40 ∷ 0x00 ∷ [])
+    ∷ [])
 
 -- From reset with this image EMACS begins at cycle 1. Let XIRQ be up from cycle T = 2 on. Then all that the theorem of the warning
 -- supposes holds, and the entry ends at T + 21, no cycle sooner.
