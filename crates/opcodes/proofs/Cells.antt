@@ -1,12 +1,12 @@
 -- The laws of the table, each by one test over all 512 cells. Assumes nothing.
 use Prim.Native.Nat.{ℕ, _+_, _-_, _*_, _/_, _%_, _<_, _≤_}
-use mathlib.Core.Path.{_≡_, refl, sym}
+use mathlib.Core.Path.{_≡_, refl, sym, _∙_, ap}
 use mathlib.Core.Bool.{Bool, true, false, _&&_, not}
 use mathlib.Core.List.{List, [], _∷_}
 use native.Mathlib.Omega.{arith}
 use lib.Dec.{T, leb, ltb, eqb, eqb→eq, leb→le}
 use borrow.Author.Tests.{eq-eqb, lt-ltb, le-ltb}
-use lib.ListN.{length, getD, List·getD-eq-default}
+use lib.ListN.{length, getD, replicate, getD-replicate, List·getD-eq-default, List·getD-map}
 use native.Mathlib.Decide.{decLt}
 use Rattle.word.specs.Word.{pick}
 use Rattle.word.proofs.Table.{at-entry, at-number, everyBelow, all, holds, same, same-is}
@@ -14,9 +14,9 @@ use Rattle.opcodes.specs.declared.Cell.{Cell}
 use Rattle.opcodes.specs.Kind.{TRAP, PAGE2, TFR/EXG, LOOP, groupOf, MOVES}
 use Rattle.opcodes.specs.Mode.{ID}
 use Rattle.opcodes.specs.Grid.{families, familyOf, grid, gridAt}
-use Rattle.opcodes.specs.Map.{pageOne, pageTwo, cellIs, cellIn, cellOf, cellNumber, opcodeMap}
+use Rattle.opcodes.specs.Map.{Lines, noRow, pageOne, pageTwo, cellIs, cellIn, cellOf, cellNumber, opcodeMap}
 use Rattle.opcodes.specs.Postbyte.{IDX, formOf, extensionOf, indexedOf, formReserved, reservedOf, lengthIn, lengthOf, costIn, costOf, untakenOf}
-use Rattle.opcodes.specs.Rules.{stopsOf, stopCell, trapCell, prebyteCell, runs, regular, column, movesMode, EveryCell, EveryInstruction, MovesHaveTwoPlaces, MovesArePlain}
+use Rattle.opcodes.specs.Rules.{stopsOf, stopCell, trapCell, prebyteCell, runs, regular, column, movesMode, widths, Sixteens, SixteenBySixteen, EveryCell, EveryInstruction, MovesHaveTwoPlaces, MovesArePlain}
 use Rattle.opcodes.proofs.Postbytes.{one-of-five}
 
 -- a cell from its number
@@ -160,13 +160,27 @@ every-instruction k p h i r n =
       length-high = leb→le _ 6 (said k j _ r m (pass 5));
     }
 
+pub sixteen-by-sixteen : SixteenBySixteen
+unfolding pageOne pageTwo
+sixteen-by-sixteen = (refl, refl)
+
+-- the widths of the lines of one row
+row-widths : (page : List Lines) → Sixteens page → (k : ℕ) → k < 16 → widths (getD page k noRow) ≡ replicate 4 16
+row-widths page wide k h =
+    sym (List·getD-map widths page k noRow)
+    ∙ ap (λ (l : List (List ℕ)). getD l k (widths noRow)) wide
+    ∙ getD-replicate 16 k (replicate 4 16) (widths noRow) h
+
+past-line : (line : List ℕ) (opcode : ℕ) → length line ≡ 16 → 256 ≤ opcode → getD line (opcode / 16) 0 ≡ 0
+past-line line opcode wide h = List·getD-eq-default line 0 (omega (arith, wide, h))
+
 -- past the last cell there is none
 past-page : (opcode : ℕ) → 256 ≤ opcode → cellIn pageTwo opcode ≡ cellIs 0 0 0 0
-unfolding pageTwo
 past-page opcode h =
-    let wide : length (getD pageTwo (opcode % 16) []) ≡ 16
-    = eqb→eq _ _ (at-entry (λ k r. eqb (length r) 16) [] pageTwo tt (opcode % 16) (omega arith)) in
-    List·getD-eq-default (getD pageTwo (opcode % 16) []) (cellIs 0 0 0 0) (omega arith)
+    let r = getD pageTwo (opcode % 16) noRow in
+    let wide = row-widths pageTwo (sixteen-by-sixteen .1) (opcode % 16) (omega arith) in
+    let width : (k : ℕ) → getD (widths r) k 0 ≡ getD (replicate 4 16) k 0 = λ k. ap (λ (l : List ℕ). getD l k 0) wide in
+    rw (past-line _ _ (width 0) h, past-line _ _ (width 1) h, past-line _ _ (width 2) h, past-line _ _ (width 3) h)
 
 past-cells : (k : ℕ) → 512 ≤ k → cellOf k ≡ cellIs 0 0 0 0
 unfolding cellOf

@@ -17,21 +17,20 @@ use Rattle.opcodes.specs.Grid.{familyOf}
 abbrev pub cellIs : ℕ → ℕ → ℕ → ℕ → Cell
 cellIs kind mode length cost = record { kind = kind; mode = mode; family = familyOf kind mode; length = length; cost = cost }
 
-abbrev pub first : List ℕ → ℕ
-first [] = 0
-first (x ∷ xs) = x
+-- a row of the map: its four lines
+pub record Lines : Type 0 where
+  pub names : List ℕ
+  pub modes : List ℕ
+  pub lengths : List ℕ
+  pub costs : List ℕ
 
-abbrev pub rest : List ℕ → List ℕ
-rest [] = []
-rest (x ∷ xs) = xs
+abbrev pub row : List ℕ → List ℕ → List ℕ → List ℕ → Lines
+row names modes lengths costs = record { names = names; modes = modes; lengths = lengths; costs = costs }
 
--- a row of cells from its four lines
-abbrev pub row : List ℕ → List ℕ → List ℕ → List ℕ → List Cell
-row [] modes lengths costs = []
-row (kind ∷ kinds) modes lengths costs =
-    cellIs kind (first modes) (first lengths) (first costs) ∷ row kinds (rest modes) (rest lengths) (rest costs)
+abbrev pub noRow : Lines
+noRow = row [] [] [] []
 
-unfoldable pub pageOne : List (List Cell)
+unfoldable pub pageOne : List Lines
 pageOne =
     (row
     (BGND ∷ ANDCC ∷ BRA ∷ PULX ∷ NEGA ∷ NEGB ∷ NEG ∷ NEG ∷ SUBA ∷ SUBA ∷ SUBA ∷ SUBA ∷ SUBB ∷ SUBB ∷ SUBB ∷ SUBB ∷ [])
@@ -131,7 +130,7 @@ pageOne =
     ∷
     []
 
-unfoldable pub pageTwo : List (List Cell)
+unfoldable pub pageTwo : List Lines
 pageTwo =
     (row
     (MOVW ∷ IDIV ∷ LBRA ∷ TRAP ∷ TRAP ∷ TRAP ∷ TRAP ∷ TRAP ∷ TRAP ∷ TRAP ∷ TRAP ∷ TRAP ∷ TRAP ∷ TRAP ∷ TRAP ∷ TRAP ∷ [])
@@ -231,9 +230,14 @@ pageTwo =
     ∷
     []
 
+-- the cell in a column of a row
+abbrev pub cellOn : Lines → ℕ → Cell
+cellOn r column =
+    cellIs (getD (r .names) column 0) (getD (r .modes) column 0) (getD (r .lengths) column 0) (getD (r .costs) column 0)
+
 -- the cell of an opcode: its row by the second digit, its column by the first
-abbrev pub cellIn : List (List Cell) → ℕ → Cell
-cellIn page opcode = getD (getD page (opcode % 16) []) (opcode / 16) (cellIs 0 0 0 0)
+abbrev pub cellIn : List Lines → ℕ → Cell
+cellIn page opcode = cellOn (getD page (opcode % 16) noRow) (opcode / 16)
 
 -- cells are numbered 0 to 255 on page 1 and 256 to 511 on page 2
 abbrev pub cellNumber : Bool → ℕ → ℕ

@@ -2,14 +2,15 @@
 use Prim.Native.Nat.{ℕ, _+_, _<_, _≤_}
 use mathlib.Core.Path.{_≡_}
 use mathlib.Core.Bool.{Bool, true, false, _&&_, _||_}
-use mathlib.Core.List.{List, [], _∷_}
+use mathlib.Core.List.{List, [], _∷_, map}
 use lib.Dec.{leb, ltb, eqb}
+use lib.ListN.{length, replicate}
 use Rattle.word.specs.Word.{pick}
 use Rattle.opcodes.specs.declared.Cell.{Cell}
 use Rattle.opcodes.specs.Kind.{TRAP, PAGE2, STOP, groupOf, MOVES}
 use Rattle.opcodes.specs.Mode.{EX, IM-EX, EX-EX, ID, IM-ID, EX-ID, ID-ID, ID-EX}
 use Rattle.opcodes.specs.Grid.{gridAt, NONE}
-use Rattle.opcodes.specs.Map.{cellOf}
+use Rattle.opcodes.specs.Map.{Lines, pageOne, pageTwo, cellOf}
 use Rattle.opcodes.specs.Postbyte.{IDX, formOf, indexedOf, reservedOf, lengthOf, costOf, untakenOf}
 
 -- the kinds that stop the machine are the first of the numbering, up to STOP: BGND (002, p. 6-31), MEM (6-141), RTC (6-176), wavr (9-23),
@@ -64,6 +65,18 @@ pub record Ruled (k : ℕ) : Type 0 where
   pub priced : regular (cellOf k) ≡ true → cellOf k .cost ≡ gridAt (cellOf k .family) (column (cellOf k))
 
 -- The laws, each proved under the same name in proofs/Cells.antt.
+
+-- how many entries the lines of a row have
+abbrev pub widths : Lines → List ℕ
+widths r = length (r .names) ∷ length (r .modes) ∷ length (r .lengths) ∷ length (r .costs) ∷ []
+
+abbrev pub Sixteens : List Lines → Type 0
+Sixteens page = map widths page ≡ replicate 16 (replicate 4 16)
+
+-- The map is whole: each page has sixteen rows, and each of a row's four lines sixteen entries, so that none is read past its end and
+-- none is left over.
+abbrev pub SixteenBySixteen : Type 0
+SixteenBySixteen = Sixteens pageOne × Sixteens pageTwo
 
 abbrev pub EveryCell : Type 0
 EveryCell = (k : ℕ) → k < 512 → Ruled k
