@@ -1,19 +1,20 @@
 -- TBL (p. 6-201) and ETBL (6-89), from their glossary pages in source document 002.
-use Prim.Native.Nat.{ℕ, _+_, _-_, _*_, _/_, _≤_, _<_}
+use Prim.Native.Nat.{ℕ, _+_, _-_, _*_, _/_, _<_}
 use mathlib.Core.Path.{_≡_}
-use mathlib.Core.Bool.{Bool}
-use lib.Dec.{eqb}
-use Rattle.word.specs.Word.{bitOf}
+use lib.Dec.{eqb, leb}
+use Rattle.word.specs.Word.{bitOf, pick}
 use Rattle.state.specs.declared.Flags.{Flags}
 use Rattle.state.specs.Ccr.{setN, setZ}
 use Rattle.results.specs.declared.Byte.{Byte}
 use Rattle.results.specs.declared.Word.{Word}
 use Rattle.results.specs.Results.{byteOf, wideOf}
 
--- Y1 + [(B) × (Y2 - Y1)], where B is a fraction of 256: the whole is taken 256 times, so that it is exact, and then the radix
--- point between bits 7 and 8 cuts it, which rounds down
+-- Y1 + [(B) × (Y2 - Y1)]: the product has its radix point between bits 7 and 8, and its integer part is what Y1 gets. Where the
+-- table falls the product is below zero, and its integer part, rounded down like the other, takes the magnitude rounded up from Y1.
 abbrev pub lookupOf : ℕ → ℕ → ℕ → ℕ
-lookupOf b y1 y2 = (y1 * 256 + b * y2 - b * y1) / 256
+lookupOf b y1 y2 =
+    pick (leb y1 y2) (y1 + b * (y2 - y1) / 256)
+    (y1 - (b * (y1 - y2) + 255) / 256)
 
 -- N and Z from the result; V is not affected; C: undefined, and so as it was (document 01, "Codes and undefined results")
 abbrev pub lookupCodes : ℕ → Flags → ℕ → Flags
@@ -27,12 +28,8 @@ tblByte f b y1 y2 = byteOf (lookupOf b y1 y2) (lookupCodes 7 f)
 abbrev pub etblWord : Flags → ℕ → ℕ → ℕ → Word
 etblWord f b y1 y2 = wideOf (lookupOf b y1 y2) (lookupCodes 15 f)
 
--- The laws, each proved under the same name in proofs/Laws.antt.
+-- The law, proved under the same name in proofs/Laws.antt.
 
--- a table that rises: the product of B and the difference, cut, is added
-abbrev pub Rising : Type 0
-Rising = (b y1 y2 : ℕ) → y1 ≤ y2 → lookupOf b y1 y2 ≡ y1 + b * (y2 - y1) / 256
-
--- a table that falls: the product, rounded up, is taken away
-abbrev pub Falling : Type 0
-Falling = (b y1 y2 : ℕ) → b < 256 → y2 ≤ y1 → lookupOf b y1 y2 ≡ y1 - (b * (y1 - y2) + 255) / 256
+-- both are one fraction, which is never below zero: Y1 less its share B, and the share B of Y2, cut once
+abbrev pub OneFraction : Type 0
+OneFraction = (b y1 y2 : ℕ) → b < 256 → lookupOf b y1 y2 ≡ (y1 * 256 + b * y2 - b * y1) / 256

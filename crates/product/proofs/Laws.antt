@@ -2,7 +2,7 @@
 use Prim.Native.Nat.{ℕ, zero, suc, _+_, _-_, _*_, _%_, _^_, _<_}
 use native.Mathlib.Nat.{mul-comm, mod-self, mul-add-mod-self-left, mod-eq-of-lt, le-of-lt, lt-of-le-of-lt, mul-le-mul-left, mul-lt-mul-of-pos-right}
 use native.Mathlib.Omega.{arith}
-use mathlib.Core.Path.{_≡_, refl, subst⁻¹}
+use mathlib.Core.Path.{_≡_, refl, sym, subst⁻¹}
 use mathlib.Core.Bool.{Bool, true, false}
 use lib.Dec.{leb}
 use lib.Pow.{pow-pos, pow-add}
@@ -37,7 +37,7 @@ complement-both g e m d n k s t u l =
     rw (whole, mul-add-mod-self-left g k (m * n)) (mod-eq-of-lt l)
 
 pub signed-product : SignedProduct
-signed-product x y hx hy = rw (← top-upper 15 x hx, ← top-upper 15 y hy) (go (leb 32768 x) (leb 32768 y) refl refl)
+signed-product x y hx hy = rw (← top-upper 15 x hx, ← top-upper 15 y hy) (sym (go (leb 32768 x) (leb 32768 y) refl refl))
   where
     go :
         (a b : Bool) →

@@ -28,9 +28,13 @@ productCodes f r = setC (setZ (setN f (bitOf 31 r)) (eqb r 0)) (bitOf 15 r)
 abbrev pub emulLong : Flags → ℕ → ℕ → Long
 emulLong f d y = longResult (d * y) (productCodes f)
 
--- the product of two signed numbers of 16 bits, as 32 bits: each is extended to 32, and the product taken modulo 2 to the 32nd
+-- the product of two signed numbers of 16 bits, as 32 bits, by sign and magnitude: the product of the magnitudes, and its two's
+-- complement where the signs differ
 abbrev pub signedProduct : ℕ → ℕ → ℕ
-signedProduct x y = extend16 x * extend16 y % 4294967296
+signedProduct x y =
+    pick (exclusiveOr (bitOf 15 x) (bitOf 15 y))
+    ((4294967296 - magnitudeOf 15 x * magnitudeOf 15 y) % 4294967296)
+    (magnitudeOf 15 x * magnitudeOf 15 y)
 
 -- EMULS (p. 6-86): (D) × (Y), signed
 abbrev pub emulsLong : Flags → ℕ → ℕ → Long
@@ -41,20 +45,15 @@ emulsLong f d y = longResult (signedProduct d y) (productCodes f)
 abbrev pub emacsCodes : Flags → ℕ → ℕ → ℕ → Flags
 emacsCodes f m i r = setNZVC f (bitOf 31 r) (eqb r 0) (sumOverflow 31 m i r) (carried 15 m i r)
 
--- EMACS (p. 6-80): the signed product of the two operands, and the accumulator
+-- EMACS (p. 6-80): (M(X) : M(X+1)) × (M(Y) : M(Y+1)) + (M ~ M+3), signed: the product of the two operands, and the accumulator m
 abbrev pub emacsLong : Flags → ℕ → ℕ → ℕ → Long
-emacsLong f x y m = longResult ((m + signedProduct x y) % 4294967296) (emacsCodes f m (signedProduct x y))
+emacsLong f x y m = longResult ((signedProduct x y + m) % 4294967296) (emacsCodes f m (signedProduct x y))
 
 -- The laws, each proved under the same name in proofs/Laws.antt.
 
--- the signed product is the product of the magnitudes, and its two's complement where the signs differ
+-- the signed product is that of the two numbers extended to 32 bits, modulo 2 to the 32nd
 abbrev pub SignedProduct : Type 0
-SignedProduct =
-    (x y : ℕ) → x < 65536 → y < 65536 →
-    signedProduct x y
-    ≡ pick (exclusiveOr (bitOf 15 x) (bitOf 15 y))
-    ((4294967296 - magnitudeOf 15 x * magnitudeOf 15 y) % 4294967296)
-    (magnitudeOf 15 x * magnitudeOf 15 y)
+SignedProduct = (x y : ℕ) → x < 65536 → y < 65536 → signedProduct x y ≡ extend16 x * extend16 y % 4294967296
 
 -- document 01, row 8: MUL of 10 by 08 gives D 0080, C set
 abbrev pub RowEight : Type 0

@@ -71,7 +71,7 @@ pub fn emacs(f: Flags, x: u16, y: u16, m: u32) -> Long
     ensures { λ r. ⌜ r ≡ emacsLong f x y m ⌝ }
 {
     let i = signed_product(x, y);
-    let r = ((m as u64 + i as u64) % 4294967296) as u32;
+    let r = ((i as u64 + m as u64) % 4294967296) as u32;
     let n = top_32(r);
     let v = results::sum_overflow(top_32(m), top_32(i), n);
     let flags = results::nzvc(f, n, r == 0, v, m % 65536 + i % 65536 > 65535);

@@ -12,7 +12,7 @@ returns c =
     let product = tops .before .before .before in
     let a = product .before .args in
     let i = signedProduct (a .x) (a .y) in
-    let r = (a .m + i) % 4294967296 in
+    let r = (i + a .m) % 4294967296 in
     rw (
       c .nzvc .ensures,
       c .before .sum-overflow .ensures,
