@@ -10,7 +10,7 @@ use borrow.Author.Tests.{leb-true}
 use Rattle.word.specs.Word.{pick}
 use Rattle.results.specs.Results.{exclusiveOr}
 use Rattle.results.proofs.Laws.{top-upper}
-use Rattle.product.specs.Product.{SignedProduct, RowEight}
+use Rattle.product.specs.Product.{signedProduct, SignedProduct, RowEight}
 
 -- a product of two numbers of k bits has at most k + k
 pub below : (k : ℕ) {a b : ℕ} → a < 2 ^ k → b < 2 ^ k → a * b < 2 ^ (k + k)
@@ -54,6 +54,10 @@ signed-product x y hx hy = rw (← top-upper 15 x hx, ← top-upper 15 y hy) (sy
     go true true p q =
         complement-both 4294967296 (x + 4294901760) (65536 - x) (y + 4294901760) (65536 - y) (y + 4294901760 - (65536 - x)) (omega arith) (omega arith) (omega arith)
         (below 16 (omega (arith, leb-true)) (omega (arith, leb-true)))
+
+-- so it is of 32 bits
+pub signed-below : (x y : ℕ) → x < 65536 → y < 65536 → signedProduct x y < 4294967296
+signed-below x y hx hy = rw (signed-product x y hx hy) (omega arith)
 
 pub row-eight : RowEight
 row-eight f = refl

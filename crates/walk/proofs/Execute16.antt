@@ -15,7 +15,7 @@ use Rattle.transfers.specs.Registers.{byteFrom, moved, signFill, backFill, tran
 use Rattle.word.proofs.Laws.{both}
 use Rattle.codes.proofs.Laws.{andcc-keeps-x, orcc-keeps-x}
 use Rattle.quotient.specs.Divide.{idivOf, fdivOf, edivOf, idivsOf, edivsOf}
-use Rattle.product.proofs.Laws.{below}
+use Rattle.product.proofs.Laws.{below, signed-below}
 use Rattle.opcodes.specs.Kind.{SUBD, ADDD, CPD, CPY, CPX, CPS, LDD, LDY, LDX, STAA, STAB, STD, STY, STX, MAXA, MINA, EMAXD, EMIND, MAXM, MINM, EMAXM}
 use Rattle.opcodes.specs.Kind.{LSRD, ASLD, INX, INY, DEX, DEY, ABA, CBA, DAA, TAB, TBA, ANDCC, ORCC, TFR/EXG}
 use Rattle.opcodes.specs.Kind.{MUL, EMUL, EMULS, EMACS, EDIV, EDIVS, IDIV, IDIVS, TBL}
@@ -146,7 +146,7 @@ module _ {b : Before} {s : State} (w : Comes b s) where
       let edivs : Fits b → AreWords (edivsOf f y d x) = λ k. edivs-words f y d x (held w k .y) (d-held w k) (held w k .x) in
       if eqb kind MUL then set-codes (set-d w (λ k. below 8 (held w k .a) (held w k .b))) refl else
       if eqb kind EMUL then set-codes (set-yd (λ k. below 16 (d-held w k) (held w k .y))) refl else
-      if eqb kind EMULS then set-codes (set-yd (λ k. omega arith)) refl else
+      if eqb kind EMULS then set-codes (set-yd (λ k. signed-below d y (d-held w k) (held w k .y))) refl else
       if eqb kind EDIV then set-codes (set-d (set-y w (λ k. ediv k .quotient)) (λ k. ediv k .remainder)) (ediv-x f y d x) else
       if eqb kind EDIVS then set-codes (set-d (set-y w (λ k. edivs k .quotient)) (λ k. edivs k .remainder)) (edivs-x f y d x) else
       if eqb kind IDIV then set-codes (set-d (set-x w (λ k. idiv k .quotient)) (λ k. idiv k .remainder)) refl else
