@@ -1,7 +1,8 @@
 -- The numbers that document 01 gives to the machine, each named here once.
-use Prim.Native.Nat.{ℕ, _-_, _*_}
+use Prim.Native.Nat.{ℕ, _*_}
 use mathlib.Core.Path.{_≡_}
 use mathlib.Core.List.{List, [], _∷_}
+use Rattle.word.specs.Word.{minusW}
 use Rattle.machine.specs.declared.Reply.{Reply}
 use Rattle.machine.specs.declared.Reply.the-variants.{Done, WrongMemory, WrongSchedule, PastLimit, Stopped, ReservedPostbyte}
 
@@ -43,7 +44,7 @@ abbrev pub swiVector : ℕ
 swiVector = 0xFFF6
 
 abbrev pub lineVector : ℕ → ℕ
-lineVector k = 0xFFF4 - 2 * k
+lineVector k = minusW 0xFFF4 (2 * k)
 
 -- the costs of an entry, of the end of a wait (WAI's second part, fVfPPP), and of an idle cycle
 abbrev pub entryCost : ℕ

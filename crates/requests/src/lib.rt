@@ -4,7 +4,6 @@ use machine::Machine;
 use state::Flags;
 use state::State;
 ghost use mathlib.Core.Path.{_≡_};
-ghost use Prim.Native.Nat.{_<_};
 ghost use lib.ListN.{length};
 ghost use Rattle.machine.specs.Names.{lineVector};
 ghost use Rattle.requests.specs.Requests.{lowestLine, allowedLine, masked as maskedOf, entryEffect, wakeEffect};
@@ -63,16 +62,14 @@ fn masked(k: u8, f: Flags) -> Flags
 }
 
 fn line_vector(k: u8) -> u16
-    requires { ⌜ k < 8 ⌝ }
     ensures { λ r. ⌜ r ≡ lineVector k ⌝ }
 {
-    Machine::XIRQ_VECTOR - 2 * (k as u16)
+    word::minus(Machine::XIRQ_VECTOR, 2 * (k as u16))
 }
 
 // Line k is entered: the frame holds the flags as they were.
 pub fn entry(s: State, m: &[u8], k: u8) -> Effect
     requires { ⌜ length (now m) ≡ 65536 ⌝ }
-    requires { ⌜ k < 8 ⌝ }
     ensures { λ r. ⌜ r ≡ entryEffect s (now (m .entry)) k ⌝ }
 {
     let f = s.flags;
@@ -82,7 +79,6 @@ pub fn entry(s: State, m: &[u8], k: u8) -> Effect
 // Line k ends a wait. The frame was pushed when the wait began.
 pub fn wake(s: State, m: &[u8], k: u8) -> Effect
     requires { ⌜ length (now m) ≡ 65536 ⌝ }
-    requires { ⌜ k < 8 ⌝ }
     ensures { λ r. ⌜ r ≡ wakeEffect s (now (m .entry)) k ⌝ }
 {
     let f = s.flags;
