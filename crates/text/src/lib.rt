@@ -4,7 +4,7 @@ ghost use mathlib.Core.Path.{_≡_};
 ghost use mathlib.Core.List.{[], _∷_};
 ghost use Prim.Native.Nat.{_≤_, _<_};
 ghost use lib.ListN.{take};
-ghost use Rattle.text.specs.Text.{written, Followed, digitOf, hexByte, hexWord, numeral};
+ghost use Rattle.text.specs.Text.{blank, Followed, digitOf, hexByte, hexWord, numeral};
 
 const DIGITS: [u8; 16] = *b"0123456789ABCDEF";
 
@@ -44,7 +44,7 @@ fn first(bytes: &[u8], n: usize) -> &[u8]
 
 impl Text {
     pub fn empty() -> Self
-        ensures { λ r. ⌜ written r ≡ [] ⌝ }
+        ensures { λ r. ⌜ r ≡ blank ⌝ }
     {
         Text {
             bytes: [0; 80],

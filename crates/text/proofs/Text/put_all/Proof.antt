@@ -16,7 +16,7 @@ abbrev μ-loop : tie.MeasureT-loop
 μ-loop more text₀ i₀ text i = length more - i
 
 loop-holds : tie.Need-loop-holds Inv-loop μ-loop
-loop-holds c = (omega arith, none-yet _ (search needs))
+loop-holds c = (omega arith, none-yet _)
 
 loop-again : tie.Need-loop-again Inv-loop μ-loop
 loop-again c =
