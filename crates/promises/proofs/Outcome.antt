@@ -2,7 +2,7 @@
 use mathlib.Core.Path.{sym, _∙_}
 use Rattle.machine.proofs.Laws.{same-reply}
 use Rattle.steps.specs.End.{End}
-use Rattle.promises.specs.Outcome.{OneNumber, OneNew, OneAnswer, OneStep, OneRun, OneRunOverRecords, OneReset}
+use Rattle.promises.specs.Outcome.{OneNumber, OneNew, OneAnswer, OneStep, OneRun, OneRunOverRecords, OneRunOverATable, OneReset}
 
 one-answer : (e : End) → OneAnswer e
 one-answer e r r′ n n′ a b = (
@@ -22,6 +22,9 @@ one-run s m given budget = one-answer _
 
 pub one-run-over-records : OneRunOverRecords
 one-run-over-records s m rs budget = one-answer _
+
+pub one-run-over-a-table : OneRunOverATable
+one-run-over-a-table s m t budget = one-answer _
 
 pub one-number : OneNumber
 one-number reply r r′ a b = a ∙ sym b

@@ -1,11 +1,12 @@
 -- No second outcome satisfies the promise of a public operation: two answers that both meet it are the same, and so are the memories that
 -- they leave. These are the public operations, and here is one theorem for each, proved under the same name in proofs/Outcome.antt:
---     Reply::number    OneNumber
---     Machine::new     OneNew
---     Machine::reset   OneReset
---     run::step        OneStep
---     run::run         OneRun
---     records::run     OneRunOverRecords
+--     Reply::number        OneNumber
+--     Machine::new         OneNew
+--     Machine::reset       OneReset
+--     run::step            OneStep
+--     run::run             OneRun
+--     records::run         OneRunOverRecords
+--     records::run_table   OneRunOverATable
 -- The three functions of the static library have theirs, `OneOutcome`, in crates/guide/specs/Doors.antt.
 use Prim.Native.Nat.{ℕ}
 use mathlib.Core.Path.{_≡_}
@@ -22,7 +23,8 @@ use Rattle.steps.specs.End.{End, Ends}
 use Rattle.run.specs.Step.{stepOf}
 use Rattle.run.specs.Run.{runOf}
 use Rattle.table.specs.declared.Record.{Record}
-use Rattle.table.specs.Records.{cyclesOf, linesOf}
+use Rattle.table.specs.declared.Table.{Table}
+use Rattle.table.specs.Records.{cyclesOf, linesOf, tableCycles, tableLines}
 
 abbrev pub OneNumber : Type 0
 OneNumber = (reply : Reply) (r r′ : ℕ) → r ≡ numberOf reply → r′ ≡ numberOf reply → r ≡ r′
@@ -49,3 +51,6 @@ OneRun = (s : State) (m : List ℕ) (given : Given) (budget : ℕ) → OneAnswer
 
 abbrev pub OneRunOverRecords : Type 0
 OneRunOverRecords = (s : State) (m : List ℕ) (rs : List Record) (budget : ℕ) → OneAnswer (runOf s m (givenIs (cyclesOf rs) (linesOf rs)) budget)
+
+abbrev pub OneRunOverATable : Type 0
+OneRunOverATable = (s : State) (m : List ℕ) (t : Table) (budget : ℕ) → OneAnswer (runOf s m (givenIs (tableCycles t) (tableLines t)) budget)

@@ -4,17 +4,16 @@ use steps::Answer;
 use table::Record;
 use table::Table;
 ghost use mathlib.Core.Path.{_≡_};
-ghost use Prim.Native.Nat.{_≤_};
 ghost use Rattle.refusals.specs.Given.{givenIs};
 ghost use Rattle.steps.specs.End.{Ends};
 ghost use Rattle.run.specs.Run.{runOf};
-ghost use Rattle.table.specs.Records.{cyclesOf, linesOf, room, tableCycles, tableLines};
+ghost use Rattle.table.specs.Records.{cyclesOf, linesOf, tableCycles, tableLines};
 
+// The machine's run, with the schedule as the records that a table holds.
 pub fn run_table(machine: Machine, m: &mut [u8], t: Table, budget: u32) -> Answer
-    requires { ⌜ t .count ≤ room ⌝ }
     ensures { λ r. ⌜ Ends (runOf (machine .state) (now (m .entry)) (givenIs (tableCycles t) (tableLines t)) budget) r (now (m .exit)) ⌝ }
 {
-    let n = t.count;
+    let n = table::held(t.count);
     let cycles = t.cycles;
     let lines = t.lines;
     run::run(machine, m, &cycles[..n], &lines[..n], budget)

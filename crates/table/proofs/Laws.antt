@@ -1,6 +1,8 @@
 -- The laws of a table of records, on the definitions alone. Assumes nothing.
-use Prim.Native.Nat.{ℕ, _+_, _<_, _≤_}
+use Prim.Native.Nat.{ℕ, _+_, _<_, _≤_, min}
 use native.Mathlib.Omega.{arith}
+use native.Mathlib.Decide.{decLe}
+use native.Mathlib.Nat.{min-eq-left, min-eq-right}
 use native.Mathlib.Numerals.{add-one}
 use mathlib.Core.Path.{_≡_, refl, sym, _∙_, ap}
 use mathlib.Core.Bool.{Bool, true, false}
@@ -58,14 +60,6 @@ placed-sound t r s l = record {
   within = omega arith;
 }
 
--- the count stays within the arrays
-pub put-within : (t : Table) (r : Record) → t .count ≤ room → withRecord t r .count ≤ room
-put-within t r within = go (ltb (t .count) room) refl
-  where
-    go : (b : Bool) → ltb (t .count) room ≡ b → pick b (placed t r) t .count ≤ room
-    go true e = omega (arith, ltb-true (t .count) room e)
-    go false e = within
-
 -- a table holds what it held before, and then the records
 gathers : (t : Table) (rs : List Record) → Sound t → Holds (tableCycles t ++ cyclesOf rs) (tableLines t ++ linesOf rs) (gathered t rs)
 gathers t [] s = record {
@@ -101,6 +95,14 @@ unfolding noRecords
 holds-first rs =
     let h = gathers noRecords rs (record { cycles-long = refl; lines-long = refl; within = omega arith }) in
     record { sound = h .sound; cycles-are = h .cycles-are; lines-are = h .lines-are }
+
+-- an array of a table has no more than its room: a count past it takes the same
+pub all-held : (n : ℕ) (xs : List ℕ) → length xs ≡ room → take (min n room) xs ≡ take n xs
+all-held n xs long = go (decLe n room)
+  where
+    go : Dec (n ≤ room) → take (min n room) xs ≡ take n xs
+    go (yes within) = rw (min-eq-left within)
+    go (no past) = let l : room ≤ n = omega arith in rw (min-eq-right l, take-all room xs (omega arith), take-all n xs (omega arith))
 
 pub room-for-more : RoomForMore
 room-for-more = omega arith

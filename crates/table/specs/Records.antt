@@ -26,7 +26,7 @@ room = recordLimit + 1
 abbrev pub RoomForMore : Type 0
 RoomForMore = recordLimit < room
 
--- the cycle numbers that a table holds, and the line bytes
+-- the cycle numbers that a table holds, and the line bytes; with a count past its room it holds what it has room for
 abbrev pub tableCycles : Table → List ℕ
 tableCycles t = take (t .count) (t .cycles)
 

@@ -1,7 +1,8 @@
 // The records of a schedule, and the table that the first of them are put into.
 use machine::Machine;
 ghost use mathlib.Core.Path.{_≡_};
-ghost use Rattle.table.specs.Records.{recordIs, noRecords, withRecord, gathered};
+ghost use Prim.Native.Nat.{min};
+ghost use Rattle.table.specs.Records.{recordIs, room, noRecords, withRecord, gathered};
 
 // From this cycle on, this line byte.
 pub struct Record {
@@ -51,6 +52,16 @@ pub fn put(t: Table, r: Record) -> Table
         y.count = i + 1;
     }
     y
+}
+
+// How many records a table holds, by its count: at most as many as it has room for.
+pub fn held(count: usize) -> usize
+    ensures { λ r. ⌜ r ≡ min count room ⌝ }
+{
+    if count < ROOM {
+        return count;
+    }
+    ROOM
 }
 
 // The records of a lent slice, as many as the table has room for.

@@ -5,7 +5,6 @@ use Rattle.refusals.specs.Given.{givenIs}
 use Rattle.run.specs.Run.{runOf}
 use Rattle.table.specs.declared.Table.{Table}
 use Rattle.table.specs.Records.{tableCycles, tableLines}
-use Rattle.table.proofs.Laws.{holds-first}
 use Rattle.records.proofs.First.{same-run}
 use Rattle.steps.proofs.Loop.{ends-same}
 use Rattle.packing.specs.Bytes.{stateOf, recordsOf}
@@ -20,12 +19,6 @@ state-of-requires c κs =
     let lent = passed .before .before .before .before .before .before .args in
     let none = none-first _ _ (sym (passed .before .lent-refusal .ensures) ∙ passed .if1 .left) in
     accepted (lent .state .now) none .whole
-
-run-table-requires : tie.Need-run-table-requires
-run-table-requires c κs =
-    let gathered = c .before .before .before in
-    let lent = gathered .before .before .before .before .before .before .before .before .before .args in
-    rw (gathered .unpacked .ensures) (holds-first (recordsOf (lent .schedule .now)) .sound .within)
 
 told-requires : tie.Need-told-requires
 told-requires c κs =
@@ -65,7 +58,7 @@ cpu12-run-spec =
     state-of-requires
     (λ c κs. search needs)
     (λ c κs. search needs)
-    run-table-requires
+    (λ c κs. search needs)
     told-requires
     (λ c. search needs)
     (λ c. search needs)
