@@ -4,7 +4,7 @@ use native.Mathlib.Omega.{arith}
 use mathlib.Core.List.{List, [], _∷_}
 use lib.ListN.{set}
 use Rattle.word.specs.Word.{plusW}
-use Rattle.memory.specs.Memory.{storeAll, noStore, AreBytes}
+use Rattle.memory.specs.Memory.{lowestBytes, storeAll, AreBytes}
 use Rattle.memory.proofs.Laws.{stored-bytes}
 use Rattle.state.specs.declared.State.{State}
 use Rattle.state.proofs.Laws.{ccr-below}
@@ -24,7 +24,8 @@ use Rattle.walk.proofs.Turns.{every-turn-goes, fits-at-pc}
 use Rattle.promises.specs.Words.{LeavesWords, EveryStepKeepsWords, EveryBoundaryHasWords}
 
 quiet-leaves : {s : State} {cost : ℕ} → Words s → LeavesWords (quiet s cost)
-quiet-leaves w = record { registers = w; address = omega arith; bytes = stored-bytes noStore (omega arith) }
+unfolding lowestBytes
+quiet-leaves w = record { registers = w; address = omega arith; bytes = λ a. omega arith }
 
 -- an instruction leaves what it has set, and stores what it says
 instruction-leaves : {b : Before} {e : Effect} → Fits b → Gives b e → LeavesWords e
