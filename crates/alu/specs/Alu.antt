@@ -107,7 +107,7 @@ maxWord f x m = wideOf (max x m) (λ _. differenceCodes 15 f x m (differenceOf 1
 abbrev pub minWord : Flags → ℕ → ℕ → Word
 minWord f x m = wideOf (min x m) (λ _. differenceCodes 15 f x m (differenceOf 15 x m false))
 
--- Two rows of document 01's table, each proved under the same name in proofs/Laws.antt.
+-- Two rows of document 01's table and one of its traps, each proved under the same name in proofs/Laws.antt.
 
 -- row 2: ADDA #01 with CCR D0 and A 7F gives A 80, CCR FA
 abbrev pub RowTwo : Type 0
@@ -116,3 +116,7 @@ RowTwo = (addByte (flagsOf 208) 127 1 false .value ≡ 128) × (ccrOf (addByte (
 -- row 6: DEC of 80 gives 7F, V set, N and Z clear, C kept
 abbrev pub RowSix : Type 0
 RowSix = (f : Flags) → decByte f 128 ≡ record { value = 127; flags = setNZV f false false true }
+
+-- INC and DEC keep C, whatever is counted; so the codes of counting cannot be changed here and in the code together
+abbrev pub CountingKeepsC : Type 0
+CountingKeepsC = (f : Flags) (m : ℕ) → (incByte f m .flags .c ≡ f .c) × (decByte f m .flags .c ≡ f .c)

@@ -16,7 +16,7 @@ use Rattle.opcodes.specs.Mode.{ID}
 use Rattle.opcodes.specs.Grid.{families, familyOf, grid, gridAt}
 use Rattle.opcodes.specs.Map.{Lines, noRow, pageOne, pageTwo, cellIs, cellIn, cellOf, cellNumber, opcodeMap}
 use Rattle.opcodes.specs.Postbyte.{IDX, formOf, extensionOf, indexedOf, formReserved, reservedOf, lengthIn, lengthOf, costIn, costOf, untakenOf}
-use Rattle.opcodes.specs.Rules.{stopsOf, stopCell, trapCell, prebyteCell, runs, regular, column, movesMode, widths, Sixteens, SixteenBySixteen, EveryCell, EveryInstruction, MovesHaveTwoPlaces, MovesArePlain}
+use Rattle.opcodes.specs.Rules.{stopsOf, stopCell, trapCell, prebyteCell, runs, regular, column, movesMode, widths, Sixteens, SixteenBySixteen, CostsByOpcode, EveryCell, EveryInstruction, MovesHaveTwoPlaces, MovesArePlain}
 use Rattle.opcodes.proofs.Postbytes.{one-of-five}
 
 -- a cell from its number
@@ -203,3 +203,7 @@ moves-are-plain k p past free = go (decLt k 512)
         let j = formOf p in
         eqb→eq _ _ (rw (not-missing k p h free, lt-ltb _ _ past) at (holds (bounds k j) (bounded k j h (one-of-five p)) 7))
     go (no n) = let none = rw (past-cells k (omega arith)) at past in absurd (omega (arith, none))
+
+pub costs-by-opcode : CostsByOpcode
+unfolding cellOf
+costs-by-opcode = refl

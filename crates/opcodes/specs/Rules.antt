@@ -78,6 +78,13 @@ Sixteens page = map widths page ≡ replicate 16 (replicate 4 16)
 abbrev pub SixteenBySixteen : Type 0
 SixteenBySixteen = Sixteens pageOne × Sixteens pageTwo
 
+-- Some costs by their opcodes, on page 1 RTI 0B, EDIV 11, MUL 12, EMUL 13, WAI 3E, SWI 3F, and on page 2 IDIV 10, EMACS 12, EMULS 13, the
+-- trap 30: so they cannot be changed in the map and in the code's table together (003, the HCS12 column; document 01, "Requests").
+abbrev pub CostsByOpcode : Type 0
+CostsByOpcode =
+    map (λ k. cellOf k .cost) (0x0B ∷ 0x11 ∷ 0x12 ∷ 0x13 ∷ 0x3E ∷ 0x3F ∷ 0x110 ∷ 0x112 ∷ 0x113 ∷ 0x130 ∷ [])
+    ≡ 8 ∷ 11 ∷ 1 ∷ 3 ∷ 7 ∷ 9 ∷ 12 ∷ 13 ∷ 3 ∷ 10 ∷ []
+
 abbrev pub EveryCell : Type 0
 EveryCell = (k : ℕ) → k < 512 → Ruled k
 

@@ -23,6 +23,7 @@ use Rattle.effect.specs.Effect.{quiet}
 use Rattle.frames.specs.Frames.{frameOf, frameStore, interruptEffect}
 use Rattle.machine.specs.declared.Reply.the-variants.{Done}
 use Rattle.machine.specs.Names.{lineVector}
+use Rattle.requests.proofs.Laws.{lowest-first}
 use Rattle.requests.specs.Requests.{lowestLine, allowedLine, masked, entryEffect, wakeEffect}
 use Rattle.turn.specs.declared.Turn.{Turn}
 use Rattle.turn.specs.Turn.{turnIs, instructed, turnOf}
@@ -60,75 +61,6 @@ other-allowed : (f : Flags) (line : ℕ) → (f .x ≡ false → line % 2 ≡ 0)
 unfolding allowedLine
 other-allowed f line shut clear = rw (xirq-shut f line shut, clear)
 
-lowest-1 : (line : ℕ) → line / 2 % 2 ≡ 1 → lowestLine line ≡ 1
-lowest-1 line up = rw (eq-eqb (line / 2 % 2) 1 up)
-
-lowest-2 : (line : ℕ) → line / 2 % 4 ≡ 2 → lowestLine line ≡ 2
-lowest-2 line up =
-    rw (ne-eqb (line / 2 % 2) 1 (λ e. omega (arith, e, up)), eq-eqb (line / 4 % 2) 1 (omega (arith, up)))
-
-lowest-3 : (line : ℕ) → line / 2 % 8 ≡ 4 → lowestLine line ≡ 3
-lowest-3 line up =
-    rw (
-      ne-eqb (line / 2 % 2) 1 (λ e. omega (arith, e, up)),
-      ne-eqb (line / 4 % 2) 1 (λ e. omega (arith, e, up)),
-      eq-eqb (line / 8 % 2) 1 (omega (arith, up)),
-    )
-
-lowest-4 : (line : ℕ) → line / 2 % 16 ≡ 8 → lowestLine line ≡ 4
-lowest-4 line up =
-    rw (
-      ne-eqb (line / 2 % 2) 1 (λ e. omega (arith, e, up)),
-      ne-eqb (line / 4 % 2) 1 (λ e. omega (arith, e, up)),
-      ne-eqb (line / 8 % 2) 1 (λ e. omega (arith, e, up)),
-      eq-eqb (line / 16 % 2) 1 (omega (arith, up)),
-    )
-
-lowest-5 : (line : ℕ) → line / 2 % 32 ≡ 16 → lowestLine line ≡ 5
-lowest-5 line up =
-    rw (
-      ne-eqb (line / 2 % 2) 1 (λ e. omega (arith, e, up)),
-      ne-eqb (line / 4 % 2) 1 (λ e. omega (arith, e, up)),
-      ne-eqb (line / 8 % 2) 1 (λ e. omega (arith, e, up)),
-      ne-eqb (line / 16 % 2) 1 (λ e. omega (arith, e, up)),
-      eq-eqb (line / 32 % 2) 1 (omega (arith, up)),
-    )
-
-lowest-6 : (line : ℕ) → line / 2 % 64 ≡ 32 → lowestLine line ≡ 6
-lowest-6 line up =
-    rw (
-      ne-eqb (line / 2 % 2) 1 (λ e. omega (arith, e, up)),
-      ne-eqb (line / 4 % 2) 1 (λ e. omega (arith, e, up)),
-      ne-eqb (line / 8 % 2) 1 (λ e. omega (arith, e, up)),
-      ne-eqb (line / 16 % 2) 1 (λ e. omega (arith, e, up)),
-      ne-eqb (line / 32 % 2) 1 (λ e. omega (arith, e, up)),
-      eq-eqb (line / 64 % 2) 1 (omega (arith, up)),
-    )
-
-lowest-7 : (line : ℕ) → line / 2 % 128 ≡ 64 → lowestLine line ≡ 7
-lowest-7 line up =
-    rw (
-      ne-eqb (line / 2 % 2) 1 (λ e. omega (arith, e, up)),
-      ne-eqb (line / 4 % 2) 1 (λ e. omega (arith, e, up)),
-      ne-eqb (line / 8 % 2) 1 (λ e. omega (arith, e, up)),
-      ne-eqb (line / 16 % 2) 1 (λ e. omega (arith, e, up)),
-      ne-eqb (line / 32 % 2) 1 (λ e. omega (arith, e, up)),
-      ne-eqb (line / 64 % 2) 1 (λ e. omega (arith, e, up)),
-      eq-eqb (line / 128 % 2) 1 (omega (arith, up)),
-    )
-
-lowest-none : (line : ℕ) → line / 2 % 128 ≡ 0 → lowestLine line ≡ 8
-lowest-none line up =
-    rw (
-      ne-eqb (line / 2 % 2) 1 (λ e. omega (arith, e, up)),
-      ne-eqb (line / 4 % 2) 1 (λ e. omega (arith, e, up)),
-      ne-eqb (line / 8 % 2) 1 (λ e. omega (arith, e, up)),
-      ne-eqb (line / 16 % 2) 1 (λ e. omega (arith, e, up)),
-      ne-eqb (line / 32 % 2) 1 (λ e. omega (arith, e, up)),
-      ne-eqb (line / 64 % 2) 1 (λ e. omega (arith, e, up)),
-      ne-eqb (line / 128 % 2) 1 (λ e. omega (arith, e, up)),
-    )
-
 -- Each line by its vector, where every line that is to be entered goes by its own.
 vectors :
     (s : State) (line : ℕ) (Goes : ℕ → Bool → Type 0) →
@@ -139,13 +71,13 @@ vectors s line Goes goes =
       xirq = λ clear up. goes 0 (omega arith) (xirq-allowed (s .flags) line clear up);
       others = λ shut clear.
           let is = other-allowed (s .flags) line shut clear in (
-            λ up. goes 1 (omega arith) (is ∙ lowest-1 line up),
-            λ up. goes 2 (omega arith) (is ∙ lowest-2 line up),
-            λ up. goes 3 (omega arith) (is ∙ lowest-3 line up),
-            λ up. goes 4 (omega arith) (is ∙ lowest-4 line up),
-            λ up. goes 5 (omega arith) (is ∙ lowest-5 line up),
-            λ up. goes 6 (omega arith) (is ∙ lowest-6 line up),
-            λ up. goes 7 (omega arith) (is ∙ lowest-7 line up),
+            λ up. goes 1 (omega arith) (is ∙ lowest-first line .one up),
+            λ up. goes 2 (omega arith) (is ∙ lowest-first line .two up),
+            λ up. goes 3 (omega arith) (is ∙ lowest-first line .three up),
+            λ up. goes 4 (omega arith) (is ∙ lowest-first line .four up),
+            λ up. goes 5 (omega arith) (is ∙ lowest-first line .five up),
+            λ up. goes 6 (omega arith) (is ∙ lowest-first line .six up),
+            λ up. goes 7 (omega arith) (is ∙ lowest-first line .seven up),
           );
     }
 
@@ -223,7 +155,7 @@ none-allowed f line shut none = rw (xirq-shut f line shut) (go (f .i) refl)
   where
     go : (i : Bool) → f .i ≡ i → pick i 8 (lowestLine line) ≡ 8
     go true is = refl
-    go false is = lowest-none line (none is)
+    go false is = lowest-first line .none (none is)
 
 none-up : (f : Flags) → allowedLine f 0 ≡ 8
 none-up f = none-allowed f 0 (λ _. refl) (λ _. refl)

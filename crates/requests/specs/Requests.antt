@@ -1,5 +1,6 @@
 -- The lines of request: which is entered, and what an entry and the end of a wait do (document 01, "Requests").
-use Prim.Native.Nat.{ℕ}
+use Prim.Native.Nat.{ℕ, _/_, _%_}
+use mathlib.Core.Path.{_≡_}
 use mathlib.Core.Bool.{true, false, _&&_, not}
 use mathlib.Core.List.{List}
 use lib.Dec.{eqb}
@@ -21,6 +22,18 @@ lowestLine line =
     (pick (bitOf 2 line) 2
     (pick (bitOf 3 line) 3
     (pick (bitOf 4 line) 4 (pick (bitOf 5 line) 5 (pick (bitOf 6 line) 6 (pick (bitOf 7 line) 7 8))))))
+
+-- The same by what the bits from 1 on are as a number, so that the order cannot be changed here and in the code together. Proved as
+-- `lowest-first` in proofs/Laws.antt.
+pub record LowestFirst (line : ℕ) : Type 0 where
+  pub one : line / 2 % 2 ≡ 1 → lowestLine line ≡ 1
+  pub two : line / 2 % 4 ≡ 2 → lowestLine line ≡ 2
+  pub three : line / 2 % 8 ≡ 4 → lowestLine line ≡ 3
+  pub four : line / 2 % 16 ≡ 8 → lowestLine line ≡ 4
+  pub five : line / 2 % 32 ≡ 16 → lowestLine line ≡ 5
+  pub six : line / 2 % 64 ≡ 32 → lowestLine line ≡ 6
+  pub seven : line / 2 % 128 ≡ 64 → lowestLine line ≡ 7
+  pub none : line / 2 % 128 ≡ 0 → lowestLine line ≡ 8
 
 -- The line that is to be entered: XIRQ, bit 0, needs X clear, the others I clear; the lowest goes first; 8 is none.
 unfoldable pub allowedLine : Flags → ℕ → ℕ
