@@ -70,6 +70,13 @@ fetchedOf m pc =
     (pick (reservedAt m (cellAt m pc) (afterOpcode m pc)) Reserved
     (Instruction (decodedOf m pc (cellAt m pc) (afterOpcode m pc))))
 
+-- the number of what was fetched, as document 01 numbers the replies: 4 for one of the ten, 5 for a reserved postbyte, and 0 for an
+-- instruction, which is then done
+abbrev pub fetchedReply : Fetched → ℕ
+fetchedReply Stop = 4
+fetchedReply Reserved = 5
+fetchedReply (Instruction d) = 0
+
 -- What a decoded instruction has read is what stands in the memory: its postbyte, and the form that this names. A move has two places, and
 -- its indexed postbytes have the form IDX, since any other is reserved there. Every instruction that is fetched is so
 -- (`FetchedFaithfully`, proved under the same name in proofs/Laws.antt).

@@ -1,5 +1,6 @@
 -- What comes next at a boundary (document 01, "Numbered replies": entry, waiting, 4, 5; "Requests").
 use Prim.Native.Nat.{ℕ}
+use mathlib.Core.Path.{_≡_}
 use mathlib.Core.Bool.{true}
 use mathlib.Core.List.{List}
 use lib.Dec.{ltb, eqb}
@@ -11,7 +12,7 @@ use Rattle.opcodes.specs.Kind.{SWI, TRAP, groupOf, SHORT-BRANCHES, LONG-BRANCHE
 use Rattle.decode.specs.declared.Decoded.{Decoded}
 use Rattle.decode.specs.declared.Fetched.{Fetched}
 use Rattle.decode.specs.declared.Fetched.the-variants.{Stop, Reserved, Instruction}
-use Rattle.decode.specs.Decode.{fetchedOf}
+use Rattle.decode.specs.Decode.{fetchedOf, fetchedReply}
 use Rattle.effect.specs.declared.Effect.{Effect}
 use Rattle.effect.specs.Effect.{quiet}
 use Rattle.execute8.specs.Bytes.{withAEffect, withBEffect, inMemoryEffect, inAEffect, inBEffect}
@@ -29,7 +30,7 @@ use Rattle.moves.specs.Bits.{bitsEffect}
 use Rattle.machine.specs.declared.Reply.{Reply}
 use Rattle.machine.specs.declared.Reply.the-variants.{Done, Stopped, ReservedPostbyte}
 use Rattle.turn.specs.declared.Turn.{Turn}
-use Rattle.machine.specs.Names.{swiVector, trapVector, idleCost}
+use Rattle.machine.specs.Names.{numberOf, swiVector, trapVector, idleCost}
 use Rattle.requests.specs.Requests.{allowedLine, entryEffect, wakeEffect}
 
 -- what changes the flow and has no operand in memory, with SWI (002, p. 6-196) and TRAP (6-205), which are entries by a vector and set I
@@ -75,6 +76,10 @@ unfoldable pub instructed : State → List ℕ → Fetched → Turn
 instructed s m Stop = turnIs Stopped (quiet s 0)
 instructed s m Reserved = turnIs ReservedPostbyte (quiet s 0)
 instructed s m (Instruction d) = ranOf s m d
+
+-- Its reply has the number of what was fetched. Proved under the same name in proofs/Laws.antt.
+abbrev pub RepliesAsFetched : Type 0
+RepliesAsFetched = (s : State) (m : List ℕ) (f : Fetched) → numberOf (instructed s m f .reply) ≡ fetchedReply f
 
 -- The turn at a boundary: an entry or the end of a wait where a line is allowed, an idle cycle of a machine that waits, and else
 -- what stands at PC.
