@@ -1,5 +1,6 @@
 use borrow.Author.Needs.{needs}
 use borrow.Author.Tests.{eq-eqb, ne-eqb}
+use Rattle.opcodes.specs.Kind.{TST}
 use Rattle.execute8.specs.Bytes.{memoryChanged}
 use Rattle.execute8.proofs.in_memory.Statement.{statement}
 use Rattle.execute8.proofs.in_memory.Tie as tie
@@ -11,7 +12,7 @@ looks c =
     let after = asked .before in
     let done = after .before .before in
     rw (
-      eq-eqb _ _ (asked .if1 .taken),
+      eq-eqb _ TST (asked .if1 .taken),
       c .quiet .ensures,
       after .with-flags .ensures,
       done .changed .ensures,
@@ -25,7 +26,7 @@ stores c =
     let after = asked .before in
     let done = after .before .before in
     rw (
-      ne-eqb _ _ (asked .if1 .left),
+      ne-eqb _ TST (asked .if1 .left),
       c .writes .ensures,
       c .before .byte .ensures,
       after .with-flags .ensures,

@@ -1,15 +1,25 @@
+use mathlib.Core.Path.{_≡_}
 use borrow.Author.Needs.{needs}
 use borrow.Author.Tests.{eq-eqb, ne-eqb}
+use Rattle.schedule.specs.Schedule.{accepted}
+use Rattle.machine.specs.Names.{recordLimit}
 use Rattle.refusals.proofs.run_refusal.Statement.{statement}
 use Rattle.refusals.proofs.run_refusal.Tie as tie
 
 wrong-memory : tie.Need-returns
 wrong-memory c = rw (ne-eqb _ _ (c .if1 .taken))
 
+-- what the call says is whether the schedule is accepted
+schedule-is :
+    (asked : tie.After-accepted) →
+    let lent = asked .before .before .before .before .before .args in
+    asked .accepted .result ≡ accepted recordLimit (lent .cycles .now) (lent .lines .now)
+schedule-is asked = asked .accepted .ensures
+
 wrong-schedule : tie.Need-returns-2
 wrong-schedule c =
     let asked = c .before in
-    rw (eq-eqb _ _ (asked .before .if1 .left), ← (asked .accepted .ensures), c .if2 .taken)
+    rw (eq-eqb _ _ (asked .before .if1 .left), ← (schedule-is asked), c .if2 .taken)
 
 past-limit : tie.Need-returns-3
 past-limit c =
@@ -17,7 +27,7 @@ past-limit c =
     let asked = limits .before .before in
     rw (
       eq-eqb _ _ (asked .before .if1 .left),
-      ← (asked .accepted .ensures),
+      ← (schedule-is asked),
       limits .before .if2 .left,
       ← (limits .past-limit .ensures),
       c .if3 .taken,
@@ -29,7 +39,7 @@ none c =
     let asked = limits .before .before in
     rw (
       eq-eqb _ _ (asked .before .if1 .left),
-      ← (asked .accepted .ensures),
+      ← (schedule-is asked),
       limits .before .if2 .left,
       ← (limits .past-limit .ensures),
       c .if3 .left,
