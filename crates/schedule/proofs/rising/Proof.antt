@@ -1,4 +1,5 @@
 use Prim.Native.Nat.{_-_}
+use native.Mathlib.Omega.{arith}
 use mathlib.Core.Path.{_≡_, sym, _∙_}
 use borrow.Author.Needs.{needs}
 use lib.ListN.{length, drop}
@@ -22,11 +23,19 @@ loop-holds c = rising-some _ (c .before .if1 .left)
 
 returns-2 : tie.Need-returns-2 Inv-loop μ-loop
 returns-2 c =
-    sym (rising-not _ _ _ (c .before .before .loop-test .taken) (c .if2 .taken)) ∙ c .before .before .before .loop .inv
+    let turn = c .before .before in
+    let here = turn .before in
+    let lent = here .before .before .before .args in
+    let falls = rising-not (lent .cycles .now) (here .loop .last) (here .loop .i) (turn .loop-test .taken) (omega (arith, c .if2 .taken)) in
+    sym falls ∙ here .loop .inv
 
 loop-again : tie.Need-loop-again Inv-loop μ-loop
 loop-again c =
-    sym (rising-on _ _ _ (c .before .before .before .loop-test .taken) (c .before .if2 .left)) ∙ c .before .before .before .before .loop .inv
+    let turn = c .before .before .before in
+    let here = turn .before in
+    let lent = here .before .before .before .args in
+    let rises = rising-on (lent .cycles .now) (here .loop .last) (here .loop .i) (turn .loop-test .taken) (omega (arith, c .before .if2 .left)) in
+    sym rises ∙ here .loop .inv
 
 returns-3 : tie.Need-returns-3 Inv-loop μ-loop
 returns-3 c = sym (rising-all _ _ _ (c .loop-test .left)) ∙ c .before .loop .inv
