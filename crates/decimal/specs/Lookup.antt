@@ -9,8 +9,9 @@ use Rattle.results.specs.declared.Byte.{Byte}
 use Rattle.results.specs.declared.Word.{Word}
 use Rattle.results.specs.Results.{byteOf, wideOf}
 
--- Y1 + [(B) × (Y2 - Y1)]: the product has its radix point between bits 7 and 8, and its integer part is what Y1 gets. Where the
--- table falls the product is below zero, and its integer part, rounded down like the other, takes the magnitude rounded up from Y1.
+-- Y1 + [(B) × (Y2 - Y1)]: the product has its radix point between bits 7 and 8, and its integer part is added to Y1. Where the
+-- table falls the product is below zero, and its integer part, rounded down too, takes away the magnitude rounded up. The sum lies
+-- between the two entries, so that nothing of it is cut off.
 abbrev pub lookupOf : ℕ → ℕ → ℕ → ℕ
 lookupOf b y1 y2 =
     pick (leb y1 y2) (y1 + b * (y2 - y1) / 256)

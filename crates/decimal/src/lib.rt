@@ -44,7 +44,7 @@ pub fn daa(f: Flags, a: u8) -> Byte
     }
 }
 
-// Between two entries of a table, b 256ths of the way from the first to the second.
+// Between two entries of a table, b 256ths of the way from the first to the second: in one fraction, by the law `OneFraction`.
 fn between(b: u8, y1: u16, y2: u16) -> u16
     ensures { λ r. ⌜ (r ≡ lookupOf b y1 y2) × (r ≤ max y1 y2) ⌝ }
 {

@@ -47,7 +47,7 @@ pub fn emul(f: Flags, d: u16, y: u16) -> Long
     }
 }
 
-// Both factors with their signs spread over 32 bits, so that the product is right modulo 2 to the 32nd.
+// Both factors with their signs spread over 32 bits: modulo 2 to the 32nd that is the product, by the law `SignedProduct`.
 fn signed_product(x: u16, y: u16) -> u32
     ensures { λ r. ⌜ r ≡ signedProduct x y ⌝ }
 {

@@ -1,7 +1,8 @@
-use Prim.Native.Nat.{ℕ, _/_, _^_}
+use Prim.Native.Nat.{ℕ, _/_, _%_, _^_}
 use native.Mathlib.Omega.{arith}
 use mathlib.Core.Path.{_≡_, refl, sym}
-use mathlib.Core.Bool.{Bool, true, false}
+use mathlib.Core.Bool.{Bool, true, false, _&&_, not}
+use lib.Dec.{eqb}
 use Rattle.word.specs.Word.{pick}
 use Rattle.state.specs.declared.Flags.{Flags}
 use Rattle.requests.specs.Requests.{lowestLine, allowedLine}
@@ -18,6 +19,10 @@ none-up f = go (f .i)
     go true = refl
     go false = refl
 
+-- the line's bit 0, and X clear
+abbrev warns : Flags → ℕ → Bool
+warns f line = eqb (line % 2) 1 && not (f .x)
+
 -- bit 0 is told by the number itself
 undivided : (n : ℕ) → n / 2 ^ 0 ≡ n
 undivided n = omega arith
@@ -27,15 +32,24 @@ quiet c = rw (c .if1 .taken) (sym (none-up _))
 
 warned : tie.Need-returns-2
 unfolding allowedLine
-warned c = rw (undivided _, c .if2 .taken)
+warned c =
+    let a = c .before .before .before .args in
+    let up : warns (a .f) (a .line) ≡ true = c .if2 .taken in
+    rw (undivided _, up)
 
 masked : tie.Need-returns-3
 unfolding allowedLine
-masked c = rw (undivided _, c .before .if2 .left, c .if3 .taken)
+masked c =
+    let a = c .before .before .before .before .args in
+    let down : warns (a .f) (a .line) ≡ false = c .before .if2 .left in
+    rw (undivided _, down, c .if3 .taken)
 
 lowest : tie.Need-returns-4
 unfolding allowedLine
-lowest c = rw (undivided _, c .before .before .if2 .left, c .before .if3 .left, c .lowest-line .ensures)
+lowest c =
+    let a = c .before .before .before .before .before .args in
+    let down : warns (a .f) (a .line) ≡ false = c .before .before .if2 .left in
+    rw (undivided _, down, c .before .if3 .left, c .lowest-line .ensures)
 
 pub allowed-line-spec : {M : Type 1} → statement M
 allowed-line-spec = tie.close (tie.spec quiet warned masked (λ c κs. search needs) lowest)
