@@ -3,10 +3,11 @@ use borrow.Author.Tests.{eq-eqb, ne-eqb}
 use Rattle.operand.proofs.accumulator_place.Statement.{statement}
 use Rattle.operand.proofs.accumulator_place.Tie as tie
 
+-- `cc` takes what is added to the base as the code has it; that it has no sign is `AddsUnsigned`
 by-a : tie.Need-returns
 by-a c =
     let at1 = c .before .before .before in
-    rw (c .place-at .ensures, c .before .plus .ensures, at1 .before .base .ensures, eq-eqb _ _ (at1 .if1 .taken))
+    rw (c .place-at .ensures, c .before .plus .ensures, at1 .before .base .ensures, eq-eqb _ _ (at1 .if1 .taken)) (cc)
 
 by-b : tie.Need-returns-2
 by-b c =
