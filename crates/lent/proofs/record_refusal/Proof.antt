@@ -2,6 +2,7 @@ use borrow.Author.Needs.{needs}
 use borrow.Author.Tests.{lt-ltb, le-ltb}
 use mathlib.Core.Path.{sym, _∙_}
 use native.Mathlib.Omega.{arith}
+use Rattle.packing.specs.Bytes.{byteIn, waitingPlace}
 use Rattle.lent.proofs.Laws.{other-length, first-refuses, first-passes}
 use Rattle.lent.proofs.record_refusal.Statement.{statement}
 use Rattle.lent.proofs.record_refusal.Tie as tie
@@ -15,12 +16,20 @@ reads-flag c =
 wrong-flag : tie.Need-returns-2
 wrong-flag c =
     let asked = c .before .before .before in
-    rw (first-passes _ _ (asked .length-refusal .ensures) (c .before .before .if1 .left), lt-ltb _ _ (c .if2 .taken))
+    let flag = byteIn (asked .before .before .args .r .now) waitingPlace in
+    rw (
+      first-passes _ _ (asked .length-refusal .ensures) (c .before .before .if1 .left),
+      lt-ltb 1 flag (omega (arith, c .if2 .taken)),
+    )
 
 none : tie.Need-returns-3
 none c =
     let asked = c .before .before .before in
-    rw (first-passes _ _ (asked .length-refusal .ensures) (c .before .before .if1 .left), le-ltb _ _ (c .if2 .left))
+    let flag = byteIn (asked .before .before .args .r .now) waitingPlace in
+    rw (
+      first-passes _ _ (asked .length-refusal .ensures) (c .before .before .if1 .left),
+      le-ltb 1 flag (omega (arith, c .if2 .left)),
+    )
 
 pub record-refusal-spec : {M : Type 1} → statement M
 record-refusal-spec =
