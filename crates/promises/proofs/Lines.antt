@@ -157,7 +157,7 @@ none-allowed f line shut none = rw (xirq-shut f line shut) (go (f .i) refl)
     go true is = refl
     go false is = lowest-first line .none (none is)
 
-none-up : (f : Flags) → allowedLine f 0 ≡ 8
+pub none-up : (f : Flags) → allowedLine f 0 ≡ 8
 none-up f = none-allowed f 0 (λ _. refl) (λ _. refl)
 
 pub every-masked-request : EveryMaskedRequest

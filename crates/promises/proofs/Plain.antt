@@ -42,8 +42,9 @@ use Rattle.machine.specs.declared.Reply.the-variants.{Done}
 use Rattle.turn.specs.declared.Turn.{Turn}
 use Rattle.turn.specs.Turn.{turnIs, controlled, withOperand, executed, instructed, turnOf}
 use Rattle.walk.proofs.Registers.{set-pc}
-use Rattle.promises.specs.Plain.{At, AtTwo, done, EnteredBy, EveryInterrupt, EveryReturn, EveryCost, EveryReset, EveryAddress, KeptButNZV, KeptButZ, EveryCode, EveryUndefined}
-use Rattle.promises.proofs.Lines.{framed, entered-by, cellTurn, turn-one, turn-two, postbyteTurn, turn-postbyte}
+use Rattle.promises.specs.Plain.{At, AtTwo, done, EnteredBy, EveryInterrupt, EveryReturn, EveryCost, EveryReset, EveryAddress, KeptButNZV, KeptButZ, EveryCode, EveryInstructionKeepsX, EveryUndefined}
+use Rattle.promises.proofs.Lines.{framed, entered-by, cellTurn, turn-one, turn-two, postbyteTurn, turn-postbyte, none-up}
+use Rattle.promises.proofs.Masks.{x-stays-clear}
 
 -- What a turn that is known leaves.
 abbrev ofCost : Turn → ℕ
@@ -283,6 +284,9 @@ every-code s m =
   where
     kept : {n z v : Bool} → KeptButNZV (s .flags) (record { s = s .flags .s; x = s .flags .x; h = s .flags .h; i = s .flags .i; n = n; z = z; v = v; c = s .flags .c })
     kept = record { s = refl; x = refl; h = refl; i = refl; c = refl }
+
+pub every-instruction-keeps-x : EveryInstructionKeepsX
+every-instruction-keeps-x s m clear = x-stays-clear s m 0 (λ e. let none = none-up (s .flags) in omega (arith, e, none)) clear
 
 -- Undefined results.
 

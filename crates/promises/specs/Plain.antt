@@ -1,8 +1,7 @@
 -- Document 01's rules in plain numbers: its sections "Requests", "Addresses", "Codes and undefined results" and "Traps for the hasty", a
 -- line each. Here a vector is an address, a cost is a number, and a byte of a frame has its place; none of the machine's own names for
--- them is used. So a machine whose definitions and code were changed together would still be refused. `XStaysClear` (Masks.antt) says
--- that no instruction sets X, `ARunIsItsSteps` (Steps.antt) that no part of a step is spent, and `BenchRows` (crates/witness) has
--- document 01's own examples. The theorems begin with `Every`; each is proved under the same name, those of requests in
+-- them is used. So a machine whose definitions and code were changed together would still be refused. `ARunIsItsSteps`
+-- (Steps.antt) says that no part of a step is spent, and `BenchRows` (crates/witness) has document 01's own examples. The theorems begin with `Every`; each is proved under the same name, those of requests in
 -- proofs/Lines.antt and the others in proofs/Plain.antt.
 use Prim.Native.Nat.{ℕ, _+_, _-_, _*_, _/_, _%_, _<_, _≤_}
 use mathlib.Core.Path.{_≡_}
@@ -226,6 +225,10 @@ pub record Codes (s : State) (m : List ℕ) : Type 0 where
 
 abbrev pub EveryCode : Type 0
 EveryCode = (s : State) (m : List ℕ) → Codes s m
+
+-- no instruction, whichever it is, turns X from 0 to 1
+abbrev pub EveryInstructionKeepsX : Type 0
+EveryInstructionKeepsX = (s : State) (m : List ℕ) → s .flags .x ≡ false → done s m .state .flags .x ≡ false
 
 -- IDIV by zero leaves X FFFF, C set and D; an overflow of EDIV, where Y is not below X, sets V and leaves Y and D; DAA with H set and a
 -- low digit past 3, for which its table has no row, leaves A and C; a byte goes to 16 bits with its sign, by TFR A,X

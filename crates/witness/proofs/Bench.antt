@@ -32,7 +32,7 @@ use Rattle.steps.specs.Steps.{turnEnd, goesOn}
 use Rattle.run.specs.Step.{stepOf}
 use Rattle.run.specs.Run.{runOf}
 use Rattle.witness.specs.Image.{bytesAt}
-use Rattle.witness.specs.Bench.{Row, Hold, code, step, table, longBranches, BenchRows, MoreRows}
+use Rattle.witness.specs.Bench.{BenchRow, Hold, code, step, benchTable, longBranches, BenchRows, MoreRows}
 use Rattle.witness.proofs.Image.{inOrder, whole-memory}
 
 -- A step that is not refused is its turn. So said it computes sooner: the length of the memory is known by a law, not counted.
@@ -58,15 +58,15 @@ step-is-turned s bytes = go (admitted s bytes) refl
         rw (eq-eqb _ _ whole, le-ltb _ _ early)
 
 -- so rows hold of a step where they hold of it as its turn
-by-turns : (rows : (State → List ℕ → End) → List Row) → Hold (rows turned) → Hold (rows step)
+by-turns : (rows : (State → List ℕ → End) → List BenchRow) → Hold (rows turned) → Hold (rows step)
 by-turns rows h = subst Hold (λ i. rows (λ s bytes. sym (step-is-turned s bytes) i)) h
 
 pub bench-rows : BenchRows
-unfolding table lowestBytes storeAll rising inForce goesOn runOf turnOf allowedLine instructed fetchedOf cellOf grid gridAt families
+unfolding benchTable lowestBytes storeAll rising inForce goesOn runOf turnOf allowedLine instructed fetchedOf cellOf grid gridAt families
     familyOf formOf extensionOf reservedOf lengthOf costOf untakenOf steppedPlace constantPlace indexedPlace operandPlace executed
     withOperand controlled accumulated changed withAEffect inAEffect firstRegisters secondRegisters registered registersEffect
     multiplied productEffect shortEffect interruptEffect addressed addressEffect
-bench-rows = by-turns table refl
+bench-rows = by-turns benchTable refl
 
 pub more-rows : MoreRows
 unfolding longBranches lowestBytes storeAll rising risingAfter inForce goesOn stepOf runOf turnOf allowedLine instructed fetchedOf cellOf

@@ -64,24 +64,24 @@ abbrev pub trapped : End → List ℕ
 trapped e = e .reply ∷ e .state .sp ∷ wordAt (e .memory) 0x1FFE ∷ e .cycles ∷ []
 
 -- a row: the numbers found, and those that the paper gives
-pub record Row : Type 0 where
+pub record BenchRow : Type 0 where
   pub found : List ℕ
   pub wanted : List ℕ
 
-abbrev pub rowIs : List ℕ → List ℕ → Row
+abbrev pub rowIs : List ℕ → List ℕ → BenchRow
 rowIs found wanted = record { found = found; wanted = wanted }
 
-abbrev pub Hold : List Row → Type 0
-Hold rows = map (λ (r : Row). r .found) rows ≡ map (λ (r : Row). r .wanted) rows
+abbrev pub Hold : List BenchRow → Type 0
+Hold rows = map (λ (r : BenchRow). r .found) rows ≡ map (λ (r : BenchRow). r .wanted) rows
 
 -- a postbyte and the bytes after it in LEAY, with X 1000: the address goes to Y
-abbrev pub addressRow : (State → List ℕ → End) → List ℕ → ℕ → Row
+abbrev pub addressRow : (State → List ℕ → End) → List ℕ → ℕ → BenchRow
 addressRow step bytes address = rowIs (inY (step (withX (sign 0x00) 0x1000) (0x19 ∷ bytes))) (0 ∷ address ∷ [])
 
 -- The rows that are marked to be proved, 1 to 11, as one table of whatever does a step. Each gets reply 0: it was done, or in row 2 the
 -- budget is spent.
-unfoldable pub table : (State → List ℕ → End) → List Row
-table step =
+unfoldable pub benchTable : (State → List ℕ → End) → List BenchRow
+benchTable step =
     -- 1: reset, vector 40 00: PC, CCR
     rowIs (afterReset (image (bytesAt 0xFFFE (0x40 ∷ 0x00 ∷ []) ∷ []))) (0 ∷ 0x4000 ∷ 0xD0 ∷ [])
     -- 2: CCR D0, 86 7F 8B 01, then a NOP, as a run with a budget of 2: A, CCR, the cycles
@@ -112,7 +112,7 @@ table step =
     ∷ []
 
 abbrev pub BenchRows : Type 0
-BenchRows = Hold (table step)
+BenchRows = Hold (benchTable step)
 
 -- 86 7F and a NOP; and so many records, one for each cycle from 0 on, with no line up
 abbrev pub load : List ℕ
@@ -126,7 +126,7 @@ abbrev pub records : ℕ → Given
 records n = givenIs (countedFrom 0 n) (replicate n 0)
 
 -- 16: 18 2F with the offset 0020. LBLE branches where Z is set, or N and V differ: PC, the cycles
-unfoldable pub longBranches : (State → List ℕ → End) → List Row
+unfoldable pub longBranches : (State → List ℕ → End) → List BenchRow
 longBranches step =
     rowIs (gone (step (sign 0x00) (0x18 ∷ 0x2F ∷ 0x00 ∷ 0x20 ∷ []))) (0 ∷ 0x0014 ∷ 3 ∷ [])
     ∷ rowIs (gone (step (sign 0x0A) (0x18 ∷ 0x2F ∷ 0x00 ∷ 0x20 ∷ []))) (0 ∷ 0x0014 ∷ 3 ∷ [])
