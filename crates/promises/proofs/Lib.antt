@@ -13,3 +13,4 @@ pub mod Costs
 pub mod Exactly
 pub mod Due
 pub mod Replies
+pub mod InForce

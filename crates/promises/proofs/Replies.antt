@@ -176,7 +176,7 @@ bad-schedule given = (go (eqb lc ll) (leb lc 64) (rising (given .cycles)) refl r
     refuses (falls k inside down) = also (eqb lc ll && leb lc 64) (fallen (given .cycles) k inside down)
     refuses (uneven other) = ap (λ b. (b && leb lc 64) && rising (given .cycles)) (ne-eqb lc ll other)
 
-good-schedule : (given : Given) → (accepted 64 (given .cycles) (given .lines) ≡ true) ↔ (BadSchedule given → ⊥)
+pub good-schedule : (given : Given) → (accepted 64 (given .cycles) (given .lines) ≡ true) ↔ (BadSchedule given → ⊥)
 good-schedule given = unless (accepted 64 (given .cycles) (given .lines)) (bad-schedule given)
 
 -- what follows a run that is not refused never gives 1 to 3

@@ -1,14 +1,14 @@
 -- Document 01's rules in plain numbers: its sections "Requests", "Addresses", "Codes and undefined results" and "Traps for the hasty", a
 -- line each. Here a vector is an address, a cost is a number, and a byte of a frame has its place; none of the machine's own names for
--- them is used. So a machine whose definitions and code were changed together would still be refused. `ARunIsItsSteps`
--- (Steps.antt) says that no part of a step is spent, and `BenchRows` (crates/witness) has document 01's own examples. The theorems begin with `Every`; each is proved under the same name, those of requests in
--- proofs/Lines.antt and the others in proofs/Plain.antt.
-use Prim.Native.Nat.{ℕ, _+_, _-_, _*_, _/_, _%_, _<_, _≤_}
+-- them is used. So a machine whose definitions and code were changed together would still be refused. `ARunIsItsSteps` (Steps.antt) says
+-- that no part of a step is spent, and `BenchRows` (crates/witness) has document 01's own examples. The theorems begin with `Every`; each
+-- is proved under the same name, the line byte's in proofs/InForce.antt, those of requests in proofs/Lines.antt, the others in proofs/Plain.antt.
+use Prim.Native.Nat.{ℕ, suc, _+_, _-_, _*_, _/_, _%_, _<_, _≤_}
 use mathlib.Core.Path.{_≡_}
 use mathlib.Core.Bool.{Bool, true, false, _&&_}
 use mathlib.Core.List.{List}
 use lib.Dec.{eqb}
-use lib.ListN.{length}
+use lib.ListN.{length, getD}
 use Rattle.word.specs.Word.{plusW, minusW}
 use Rattle.memory.specs.Memory.{byteAt, wordAt}
 use Rattle.state.specs.declared.Flags.{Flags}
@@ -17,10 +17,12 @@ use Rattle.state.specs.State.{withPc}
 use Rattle.effect.specs.declared.Effect.{Effect}
 use Rattle.machine.specs.declared.Reply.the-variants.{Done}
 use Rattle.machine.specs.Reset.{resetOf}
+use Rattle.refusals.specs.Given.{Given, lineIn}
 use Rattle.turn.specs.Turn.{turnOf}
 use Rattle.steps.specs.Steps.{turnMemory}
 use Rattle.walk.specs.Words.{Words}
 use Rattle.promises.specs.Frame.{codesByte, FrameAt}
+use Rattle.promises.specs.Replies.{BadSchedule}
 
 -- what a machine that does not wait has at PC: an opcode, or an opcode and the byte after it
 abbrev pub At : State → List ℕ → ℕ → Type 0
@@ -34,6 +36,19 @@ abbrev pub done : State → List ℕ → Effect
 done s m = turnOf s m 0 .effect
 
 -- "Requests", "Traps for the hasty".
+
+-- The line byte in force at a clock value: the last record's at or before it, else 0.
+pub record InForceAt (given : Given) (clock : ℕ) : Type 0 where
+  pub last :
+      (k : ℕ) →
+      k < length (given .cycles) →
+      getD (given .cycles) k 0 ≤ clock →
+      (suc k < length (given .cycles) → clock < getD (given .cycles) (suc k) 0) →
+      lineIn given clock ≡ getD (given .lines) k 0
+  pub none : (0 < length (given .cycles) → clock < getD (given .cycles) 0 0) → lineIn given clock ≡ 0
+
+abbrev pub EveryLineByte : Type 0
+EveryLineByte = (given : Given) (clock : ℕ) → (BadSchedule given → ⊥) → InForceAt given clock
 
 -- An entry by a vector: PC is the word that the memory has there before the pushes; SP is 9 lower, and the nine bytes from there hold
 -- the registers, with this PC; I is set, and X is as given.
