@@ -1,88 +1,52 @@
 -- The lowest line that is up goes first. Assumes nothing.
-use Prim.Native.Nat.{ℕ, _/_, _%_}
+use Prim.Native.Nat.{ℕ, _*_, _/_, _%_}
 use native.Mathlib.Omega.{arith}
-use mathlib.Core.Path.{_≡_}
-use borrow.Author.Tests.{eq-eqb, ne-eqb}
+use mathlib.Core.Path.{_≡_, _∙_}
+use mathlib.Core.Bool.{Bool, true}
+use lib.Dec.{T, eqb, eqb→eq}
+use borrow.Author.Tests.{eq-eqb}
+use Rattle.word.specs.Word.{pick}
+use Rattle.word.proofs.Table.{everyBelow, at-number}
 use Rattle.requests.specs.Requests.{lowestLine, LowestFirst}
 
-bit-1 : (line : ℕ) → line / 2 % 2 ≡ 1 → lowestLine line ≡ 1
-bit-1 line up = rw (eq-eqb (line / 2 % 2) 1 up)
+-- the bits from 1 to 7, as a number below 128, are those of the line byte
+seven-bits :
+    (line : ℕ) →
+    (line / 2 % 128 * 2 / 2 % 2 ≡ line / 2 % 2)
+    × (line / 2 % 128 * 2 / 4 % 2 ≡ line / 4 % 2)
+    × (line / 2 % 128 * 2 / 8 % 2 ≡ line / 8 % 2)
+    × (line / 2 % 128 * 2 / 16 % 2 ≡ line / 16 % 2)
+    × (line / 2 % 128 * 2 / 32 % 2 ≡ line / 32 % 2)
+    × (line / 2 % 128 * 2 / 64 % 2 ≡ line / 64 % 2)
+    × (line / 2 % 128 * 2 / 128 % 2 ≡ line / 128 % 2)
+seven-bits line = (omega arith, omega arith, omega arith, omega arith, omega arith, omega arith, omega arith)
 
-bit-2 : (line : ℕ) → line / 2 % 4 ≡ 2 → lowestLine line ≡ 2
-bit-2 line up =
-    rw (ne-eqb (line / 2 % 2) 1 (λ e. omega (arith, e, up)), eq-eqb (line / 4 % 2) 1 (omega (arith, up)))
+-- so they tell which it is
+by-seven : (line : ℕ) → lowestLine line ≡ lowestLine (line / 2 % 128 * 2)
+by-seven line =
+    let same = seven-bits line in
+    rw (same .0, same .1, same .2, same .3, same .4, same .5, same .6)
 
-bit-3 : (line : ℕ) → line / 2 % 8 ≡ 4 → lowestLine line ≡ 3
-bit-3 line up =
-    rw (
-      ne-eqb (line / 2 % 2) 1 (λ e. omega (arith, e, up)),
-      ne-eqb (line / 4 % 2) 1 (λ e. omega (arith, e, up)),
-      eq-eqb (line / 8 % 2) 1 (omega (arith, up)),
-    )
+-- Where all such numbers that leave a rest have this lowest line, a line byte that leaves it does. The first is one computed test.
+abbrev hasLowest : ℕ → ℕ → ℕ → ℕ → Bool
+hasLowest modulus rest k v = pick (eqb (v % modulus) rest) (eqb (lowestLine (v * 2)) k) true
 
-bit-4 : (line : ℕ) → line / 2 % 16 ≡ 8 → lowestLine line ≡ 4
-bit-4 line up =
-    rw (
-      ne-eqb (line / 2 % 2) 1 (λ e. omega (arith, e, up)),
-      ne-eqb (line / 4 % 2) 1 (λ e. omega (arith, e, up)),
-      ne-eqb (line / 8 % 2) 1 (λ e. omega (arith, e, up)),
-      eq-eqb (line / 16 % 2) 1 (omega (arith, up)),
-    )
-
-bit-5 : (line : ℕ) → line / 2 % 32 ≡ 16 → lowestLine line ≡ 5
-bit-5 line up =
-    rw (
-      ne-eqb (line / 2 % 2) 1 (λ e. omega (arith, e, up)),
-      ne-eqb (line / 4 % 2) 1 (λ e. omega (arith, e, up)),
-      ne-eqb (line / 8 % 2) 1 (λ e. omega (arith, e, up)),
-      ne-eqb (line / 16 % 2) 1 (λ e. omega (arith, e, up)),
-      eq-eqb (line / 32 % 2) 1 (omega (arith, up)),
-    )
-
-bit-6 : (line : ℕ) → line / 2 % 64 ≡ 32 → lowestLine line ≡ 6
-bit-6 line up =
-    rw (
-      ne-eqb (line / 2 % 2) 1 (λ e. omega (arith, e, up)),
-      ne-eqb (line / 4 % 2) 1 (λ e. omega (arith, e, up)),
-      ne-eqb (line / 8 % 2) 1 (λ e. omega (arith, e, up)),
-      ne-eqb (line / 16 % 2) 1 (λ e. omega (arith, e, up)),
-      ne-eqb (line / 32 % 2) 1 (λ e. omega (arith, e, up)),
-      eq-eqb (line / 64 % 2) 1 (omega (arith, up)),
-    )
-
-bit-7 : (line : ℕ) → line / 2 % 128 ≡ 64 → lowestLine line ≡ 7
-bit-7 line up =
-    rw (
-      ne-eqb (line / 2 % 2) 1 (λ e. omega (arith, e, up)),
-      ne-eqb (line / 4 % 2) 1 (λ e. omega (arith, e, up)),
-      ne-eqb (line / 8 % 2) 1 (λ e. omega (arith, e, up)),
-      ne-eqb (line / 16 % 2) 1 (λ e. omega (arith, e, up)),
-      ne-eqb (line / 32 % 2) 1 (λ e. omega (arith, e, up)),
-      ne-eqb (line / 64 % 2) 1 (λ e. omega (arith, e, up)),
-      eq-eqb (line / 128 % 2) 1 (omega (arith, up)),
-    )
-
-no-bit : (line : ℕ) → line / 2 % 128 ≡ 0 → lowestLine line ≡ 8
-no-bit line up =
-    rw (
-      ne-eqb (line / 2 % 2) 1 (λ e. omega (arith, e, up)),
-      ne-eqb (line / 4 % 2) 1 (λ e. omega (arith, e, up)),
-      ne-eqb (line / 8 % 2) 1 (λ e. omega (arith, e, up)),
-      ne-eqb (line / 16 % 2) 1 (λ e. omega (arith, e, up)),
-      ne-eqb (line / 32 % 2) 1 (λ e. omega (arith, e, up)),
-      ne-eqb (line / 64 % 2) 1 (λ e. omega (arith, e, up)),
-      ne-eqb (line / 128 % 2) 1 (λ e. omega (arith, e, up)),
-    )
+by-rest :
+    (modulus rest k : ℕ) → T (everyBelow (hasLowest modulus rest k) 128) → (line : ℕ) → line / 2 % 128 % modulus ≡ rest → lowestLine line ≡ k
+by-rest modulus rest k all line leaves =
+    let v = line / 2 % 128 in
+    let tested = at-number (hasLowest modulus rest k) 128 all v (omega arith) in
+    by-seven line ∙ eqb→eq _ _ (rw (eq-eqb (v % modulus) rest leaves) at tested)
 
 pub lowest-first : (line : ℕ) → LowestFirst line
 lowest-first line =
     record {
-      one = bit-1 line;
-      two = bit-2 line;
-      three = bit-3 line;
-      four = bit-4 line;
-      five = bit-5 line;
-      six = bit-6 line;
-      seven = bit-7 line;
-      none = no-bit line;
+      one = λ up. by-rest 2 1 1 tt line (omega (arith, up));
+      two = λ up. by-rest 4 2 2 tt line (omega (arith, up));
+      three = λ up. by-rest 8 4 3 tt line (omega (arith, up));
+      four = λ up. by-rest 16 8 4 tt line (omega (arith, up));
+      five = λ up. by-rest 32 16 5 tt line (omega (arith, up));
+      six = λ up. by-rest 64 32 6 tt line (omega (arith, up));
+      seven = λ up. by-rest 128 64 7 tt line (omega (arith, up));
+      none = λ up. by-rest 128 0 8 tt line (omega (arith, up));
     }
