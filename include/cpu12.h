@@ -1,7 +1,7 @@
 /*
  * The CPU12 machine, for C: reset, one step, and a run, over lent bytes.
  *
- * Link target/staticlib/libguide.a, which `rt staticlib guide` writes, into an x86-64 program. docs/GUIDE-ABI.md says what is
+ * Link target/staticlib/libcpu12.a, which `rt staticlib cpu12` writes, into an x86-64 program. docs/GUIDE-ABI.md says what is
  * proved of the functions.
  *
  * What a caller owes: each pointer points at as many bytes as the length beside it says (it is not null, and of length 0 it is not

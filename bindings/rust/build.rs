@@ -1,4 +1,4 @@
-//! Finds the proved static library: in the folder that `CPU12_LIBRARY` names, or else where `rt staticlib guide` writes it.
+//! Finds the proved static library: in the folder that `CPU12_LIBRARY` names, or else where `rt staticlib cpu12` writes it.
 
 use std::env;
 use std::path::PathBuf;
@@ -12,7 +12,7 @@ fn main() {
             PathBuf::from(here).join("../../target/staticlib")
         }
     };
-    println!("cargo:rerun-if-changed={}", folder.join("libguide.a").display());
+    println!("cargo:rerun-if-changed={}", folder.join("libcpu12.a").display());
     println!("cargo:rustc-link-search=native={}", folder.display());
-    println!("cargo:rustc-link-lib=static=guide");
+    println!("cargo:rustc-link-lib=static=cpu12");
 }

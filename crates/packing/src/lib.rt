@@ -1,5 +1,5 @@
 // The machine's state and a schedule as bytes: docs/GUIDE-ABI.md has the state record and the packed schedule. What is refused is
-// told by who is lent the bytes (crates/guide).
+// told by who is lent the bytes (crates/cpu12).
 use state::Flags;
 use state::State;
 use table::Record;

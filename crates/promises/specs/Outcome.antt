@@ -7,7 +7,7 @@
 --     run::run             OneRun
 --     records::run         OneRunOverRecords
 --     records::run_table   OneRunOverATable
--- The three functions of the static library have theirs, `OneOutcome`, in crates/guide/specs/Doors.antt.
+-- The three functions of the static library have theirs, `OneOutcome`, in crates/cpu12/specs/Doors.antt.
 use Prim.Native.Nat.{ℕ}
 use mathlib.Core.Path.{_≡_}
 use mathlib.Core.List.{List}

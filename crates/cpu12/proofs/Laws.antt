@@ -9,7 +9,7 @@ use Rattle.steps.specs.declared.Answer.{Answer}
 use Rattle.machine.specs.Names.{numberOf}
 use Rattle.steps.specs.End.{End, Ends}
 use Rattle.packing.specs.Bytes.{bytesOf}
-use Rattle.guide.specs.Doors.{unless, told, Left, Leaves, OneOutcome}
+use Rattle.cpu12.specs.Doors.{unless, told, Left, Leaves, OneOutcome}
 
 -- a door that refuses, and one that does not
 pub door-refuses : (n : ℕ) (r m : List ℕ) (l : Left) {v : ℕ} → v ≡ n → (v ≡ 0 → ⊥) → Leaves (unless n r m l) v r m

@@ -4,9 +4,9 @@ use Rattle.state.specs.declared.State.{State}
 use Rattle.run.specs.Step.{stepOf}
 use Rattle.steps.proofs.Loop.{ends-same}
 use Rattle.lent.proofs.Laws.{accepted}
-use Rattle.guide.proofs.Laws.{door-refuses, door-opens, told-leaves}
-use Rattle.guide.proofs.cpu12_step.Statement.{statement}
-use Rattle.guide.proofs.cpu12_step.Tie as tie
+use Rattle.cpu12.proofs.Laws.{door-refuses, door-opens, told-leaves}
+use Rattle.cpu12.proofs.cpu12_step.Statement.{statement}
+use Rattle.cpu12.proofs.cpu12_step.Tie as tie
 
 state-of-requires : tie.Need-state-of-requires
 state-of-requires c κs =

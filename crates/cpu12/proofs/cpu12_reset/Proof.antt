@@ -1,9 +1,9 @@
 use borrow.Author.Needs.{needs}
 use mathlib.Core.Path.{refl, sym, _∙_}
 use Rattle.lent.proofs.Laws.{other-length}
-use Rattle.guide.proofs.Laws.{door-refuses, door-opens}
-use Rattle.guide.proofs.cpu12_reset.Statement.{statement}
-use Rattle.guide.proofs.cpu12_reset.Tie as tie
+use Rattle.cpu12.proofs.Laws.{door-refuses, door-opens}
+use Rattle.cpu12.proofs.cpu12_reset.Statement.{statement}
+use Rattle.cpu12.proofs.cpu12_reset.Tie as tie
 
 put-record-requires : tie.Need-put-record-requires
 put-record-requires c κs =

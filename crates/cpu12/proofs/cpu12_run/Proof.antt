@@ -9,9 +9,9 @@ use Rattle.records.proofs.First.{same-run}
 use Rattle.steps.proofs.Loop.{ends-same}
 use Rattle.packing.specs.Bytes.{stateOf, recordsOf}
 use Rattle.lent.proofs.Laws.{none-first, accepted}
-use Rattle.guide.proofs.Laws.{door-refuses, door-opens, told-leaves}
-use Rattle.guide.proofs.cpu12_run.Statement.{statement}
-use Rattle.guide.proofs.cpu12_run.Tie as tie
+use Rattle.cpu12.proofs.Laws.{door-refuses, door-opens, told-leaves}
+use Rattle.cpu12.proofs.cpu12_run.Statement.{statement}
+use Rattle.cpu12.proofs.cpu12_run.Tie as tie
 
 state-of-requires : tie.Need-state-of-requires
 state-of-requires c κs =

@@ -10,7 +10,7 @@ use Rattle.table.specs.Records.{cyclesOf, linesOf}
 use Rattle.packing.specs.Bytes.{stateOf, bytesOf, recordsOf}
 use Rattle.packing.specs.Again.{stateBytes}
 use Rattle.lent.specs.Lent.{recordRefusal}
-use Rattle.guide.specs.Doors.{Left, stepLeaves, runLeaves}
+use Rattle.cpu12.specs.Doors.{Left, stepLeaves, runLeaves}
 
 -- the state's bytes of a record that is not refused, taken to the state and back
 abbrev pub RecordAgain : Type 0

@@ -6,7 +6,7 @@ ghost use mathlib.Core.Path.{_≡_};
 ghost use lib.ListN.{length};
 ghost use Rattle.machine.specs.Names.{numberOf};
 ghost use Rattle.packing.specs.Bytes.{recordSize, bytesOf};
-ghost use Rattle.guide.specs.Doors.{resetLeaves, stepLeaves, runLeaves, Leaves};
+ghost use Rattle.cpu12.specs.Doors.{resetLeaves, stepLeaves, runLeaves, Leaves};
 
 // The machine's answer: its state and cycles go into the record, and its reply's number is returned.
 fn told(r: &mut [u8], answer: Answer) -> u32

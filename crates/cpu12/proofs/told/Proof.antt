@@ -1,6 +1,6 @@
 use borrow.Author.Needs.{needs}
-use Rattle.guide.proofs.told.Statement.{statement}
-use Rattle.guide.proofs.told.Tie as tie
+use Rattle.cpu12.proofs.told.Statement.{statement}
+use Rattle.cpu12.proofs.told.Tie as tie
 
 pub told-spec : {M : Type 1} → statement M
 told-spec =

@@ -10,8 +10,8 @@ use Rattle.run.specs.Step.{stepOf}
 use Rattle.run.specs.Run.{runOf}
 use Rattle.packing.proofs.Again.{bytes-again}
 use Rattle.lent.specs.Lent.{recordRefusal, lentRefusal}
-use Rattle.guide.specs.Doors.{Left, leftIs, unless}
-use Rattle.guide.specs.Again.{RecordAgain, AsLent, RefusedStepKeeps, RefusedRunKeeps}
+use Rattle.cpu12.specs.Doors.{Left, leftIs, unless}
+use Rattle.cpu12.specs.Again.{RecordAgain, AsLent, RefusedStepKeeps, RefusedRunKeeps}
 use Rattle.lent.proofs.Laws.{none-first, accepted}
 
 pub record-again : RecordAgain
