@@ -19,14 +19,14 @@ module _ (given : Given) (clock : ℕ) (good : BadSchedule given → ⊥) where
   cycle k = getD (given .cycles) k 0
 
   -- each record is after the one before it, and so after every earlier one
-  rises : (k : ℕ) → suc k < length (given .cycles) → cycle k < cycle (suc k)
+  pub rises : (k : ℕ) → suc k < length (given .cycles) → cycle k < cycle (suc k)
   rises k h = go (decLt (cycle k) (cycle (suc k)))
     where
       go : Dec (cycle k < cycle (suc k)) → cycle k < cycle (suc k)
       go (yes l) = l
       go (no l) = absurd (good (falls k h (omega (arith, l))))
 
-  earlier : (d i k : ℕ) → i + d ≡ k → k < length (given .cycles) → cycle i ≤ cycle k
+  pub earlier : (d i k : ℕ) → i + d ≡ k → k < length (given .cycles) → cycle i ≤ cycle k
   earlier zero i k e h =
       let is : i ≡ k = omega (arith, e) in
       let same = ap cycle is in

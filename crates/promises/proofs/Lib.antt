@@ -3,7 +3,6 @@ pub mod Frame
 pub mod Store
 pub mod Outcome
 pub mod Steps
-pub mod SetBack
 pub mod Masks
 pub mod Boundaries
 pub mod Warning
@@ -15,3 +14,5 @@ pub mod Exactly
 pub mod Due
 pub mod Replies
 pub mod InForce
+pub mod Handed
+pub mod SetBack

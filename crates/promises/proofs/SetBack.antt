@@ -13,14 +13,19 @@ use Rattle.turn.specs.Turn.{turnIs, turnOf}
 use Rattle.walk.specs.Clock.{atClock}
 use Rattle.walk.proofs.Clock.{no-turn-reads-the-clock}
 use Rattle.refusals.specs.Given.{Given, lineIn}
+use Rattle.refusals.specs.Refusals.{runRefusal}
 use Rattle.steps.specs.End.{End, endIs, endsHere, after}
 use Rattle.steps.specs.Steps.{goesOn, turnAt, nextState, nextMemory}
 use Rattle.steps.proofs.Loop.{run-stops, run-spends, run-steps, run-over}
 use Rattle.run.proofs.Refusals.{run-taken}
 use Rattle.promises.specs.SetBack.{earlier, endEarlier, endLater, SameLines, StandsFor, standIn, OnlyTheLinesInForceCount, AStandInIsItsSteps}
-use Rattle.promises.specs.SetBack.{AReplayIsItsSteps}
+use Rattle.promises.specs.SetBack.{setBack, TheClockMayBeSetBack, AReplayIsItsSteps, AReplayHasOneEnd}
 use Rattle.promises.specs.SetBack.Replay.{one-part, one-more-part}
+use Rattle.promises.specs.Steps.{afterSteps, IsOfSteps}
 use Rattle.promises.proofs.Steps.{takes-steps, keeps, and-then}
+use Rattle.promises.proofs.Boundaries.{one-on}
+use Rattle.promises.proofs.Replies.{run-accepted}
+use Rattle.promises.proofs.Handed.{same-length, line-back, accepted-back}
 
 module _ (given given′ : Given) (amount : ℕ) where
   -- the turn at a boundary, with the clock set back
@@ -116,3 +121,77 @@ a-replay-is-its-steps s m given room e w bytes (one-part amount budget given′ 
 a-replay-is-its-steps s m given room e w bytes (one-more-part {room = room′} {e = e′} parts amount budget given′ stands) =
     and-then s m given room′ budget e′ _ w bytes (a-replay-is-its-steps s m given room′ e′ w bytes parts)
     (λ words held. a-stand-in-is-its-steps (e′ .state) (e′ .memory) given given′ amount budget words held stands)
+
+-- an end of n steps with a turn that is done at its boundary: that turn was not paid
+not-paid :
+    (n : ℕ) (s : State) (m : List ℕ) (given : Given) (room : ℕ) (e : End) →
+    IsOfSteps n s m given room e →
+    numberOf (turnAt given (afterSteps n given s m .state) (afterSteps n given s m .memory) .reply) ≡ 0 →
+    (e .reply ≡ 0) × (room < afterSteps (suc n) given s m .cycles)
+not-paid n s m given room e is done =
+    let reply = is .reply ∙ (λ i. numberOf (turnAt given (is .state i) (is .memory i) .reply)) ∙ done in
+    let spent = is .spent reply in
+    let cost : turnAt given (e .state) (e .memory) .effect .cost
+    ≡ turnAt given (afterSteps n given s m .state) (afterSteps n given s m .memory) .effect .cost =
+    λ i. turnAt given (is .state i) (is .memory i) .effect .cost in
+    (reply, omega (arith, spent, cost, is .used, one-on n s m given .cycles-are))
+
+-- two ends of as many steps are the same
+same-end :
+    (n n′ : ℕ) (s : State) (m : List ℕ) (given : Given) (room room′ : ℕ) (e e′ : End) →
+    IsOfSteps n s m given room e →
+    IsOfSteps n′ s m given room′ e′ →
+    n ≡ n′ →
+    e ≡ e′
+same-end n n′ s m given room room′ e e′ one two is =
+    let state = one .state ∙ ap (λ (k : ℕ). afterSteps k given s m .state) is ∙ sym (two .state) in
+    let memory = one .memory ∙ ap (λ (k : ℕ). afterSteps k given s m .memory) is ∙ sym (two .memory) in
+    let cycles = one .used ∙ ap (λ (k : ℕ). afterSteps k given s m .cycles) is ∙ sym (two .used) in
+    let reply = one .reply ∙ (λ i. numberOf (turnAt given (state i) (memory i) .reply)) ∙ sym (two .reply) in
+    λ i. endIs (reply i) (state i) (memory i) (cycles i)
+
+one-end :
+    (n n′ : ℕ) (s : State) (m : List ℕ) (given : Given) (room room′ : ℕ) (e e′ : End) →
+    IsOfSteps n s m given room e →
+    IsOfSteps n′ s m given room′ e′ →
+    room ≤ room′ →
+    (e .reply ≡ 0 → room ≡ room′) →
+    e ≡ e′
+one-end n n′ s m given room room′ e e′ one two most ended = go (decLt n n′) (decLt n′ n)
+  where
+    go : Dec (n < n′) → Dec (n′ < n) → e ≡ e′
+    go (yes less) any =
+        let over = not-paid n s m given room e one (two .done n less) in
+        let paid = two .paid (suc n) (omega (arith, less)) in
+        let same = ended (over .0) in
+        absurd (omega (arith, over .1, paid, same))
+    go (no notLess) (yes more) =
+        let over = not-paid n′ s m given room′ e′ two (one .done n′ more) in
+        let paid = one .paid (suc n′) (omega (arith, more)) in
+        absurd (omega (arith, over .1, paid, most))
+    go (no notLess) (no notMore) = same-end n n′ s m given room room′ e e′ one two (omega (arith, notLess, notMore))
+
+pub a-replay-has-one-end : AReplayHasOneEnd
+a-replay-has-one-end s m given room room′ e e′ w bytes parts others most ended =
+    let one = a-replay-is-its-steps s m given room e w bytes parts in
+    let two = a-replay-is-its-steps s m given room′ e′ w bytes others in
+    one-end (one .0) (two .0) s m given room room′ e e′ (one .1) (two .1) most ended
+
+-- the clock and the schedule set back together
+pub the-clock-may-be-set-back : TheClockMayBeSetBack
+the-clock-may-be-set-back s m given amount budget back free =
+    let a = run-accepted s m given budget .0 free in
+    let free′ : runRefusal (earlier amount s) m (setBack amount given) budget ≡ 0 =
+    run-accepted (earlier amount s) m (setBack amount given) budget .1
+    (record {
+      memory = a .memory;
+      schedule = accepted-back given amount (a .schedule);
+      spends = a .spends;
+      clock = omega (arith, a .clock);
+    }) in
+    let lines : SameLines amount given (setBack amount given) (s .clock) (s .clock + budget) =
+    λ t low high. line-back given amount t (same-length given amount (a .schedule)) (omega (arith, back, low)) in
+    (free′,
+    run-taken (earlier amount s) m (setBack amount given) budget free′
+    ∙ goes-back given (setBack amount given) amount (suc budget) s m budget back lines
+    ∙ sym (ap (endEarlier amount) (run-taken s m given budget free)))
