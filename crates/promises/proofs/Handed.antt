@@ -8,17 +8,17 @@ use mathlib.Core.Bool.{Bool, true, false}
 use mathlib.Core.List.{List, [], _∷_, map}
 use lib.Dec.{leb}
 use lib.ListN.{length, getD, take, drop, length-map, length-take, length-drop, List·getD-map}
-use lib.Seq.{getD-drop}
+use lib.Seq.{getD-take, getD-drop}
 use borrow.Author.Tests.{leb-true, leb-false, le-leb, lt-leb}
 use Rattle.word.specs.Word.{pick}
 use Rattle.schedule.specs.Schedule.{rising, inForce, passed}
-use Rattle.schedule.proofs.Laws.{passed-on, accepted-same, rising-rest, later as not-yet}
-use Rattle.refusals.specs.Given.{Given, givenIs, lineIn}
+use Rattle.schedule.proofs.Laws.{passed-on, accepted-same, accepted-rising, rising-rest, later as not-yet}
+use Rattle.refusals.specs.Given.{Given, lineIn}
 use Rattle.promises.specs.Replies.{BadSchedule}
 use Rattle.promises.specs.Replies.BadSchedule.{long, falls, uneven}
-use Rattle.promises.specs.SetBack.{setBack, WhatIsHandedWillDo}
-use Rattle.promises.proofs.Replies.{good-schedule}
-use Rattle.promises.proofs.InForce.{rises, earlier}
+use Rattle.promises.specs.SetBack.{earlier as setEarlier, setBack, SameLines, upTo, handed, WhatIsHandedWillDo}
+use Rattle.promises.proofs.Replies.{good-schedule, run-accepted}
+use Rattle.promises.proofs.InForce.{Rises, rises, earlier}
 
 -- a record is at or before a clock value, and is so with the amount taken off both
 test-back : (amount c t : ℕ) → amount ≤ t → leb (c - amount) (t - amount) ≡ leb c t
@@ -72,7 +72,7 @@ module _ (amount t : ℕ) (h : amount ≤ t) where
       go false k = absurd (omega (arith, k))
 
 -- the line byte in force, set back
-pub line-back :
+line-back :
     (given : Given) (amount t : ℕ) → length (given .cycles) ≡ length (given .lines) → amount ≤ t →
     lineIn (setBack amount given) (t - amount) ≡ lineIn given t
 line-back given amount t same h =
@@ -115,16 +115,8 @@ cut-off before (c ∷ cs) (l ∷ ls) to t up h =
         let after = leb-false c to e in
         rw (lt-leb c t (omega (arith, after, h))) (sym (not-yet before c cs ls t up (omega (arith, after, h))))
 
--- so has what is handed to a run; the records that are left have as many line bytes
-pub what-is-handed-will-do : WhatIsHandedWillDo
-what-is-handed-will-do given amount from to up same back t low high =
-    let some = passed (given .cycles) to in
-    line-back (givenIs (take some (given .cycles)) (take some (given .lines))) amount t
-    (length-take some (given .cycles) ∙ ap (min some) same ∙ sym (length-take some (given .lines))) (omega (arith, low, back))
-    ∙ cut-off 0 (given .cycles) (given .lines) to t up high
-
--- a schedule that is set back is accepted where it was
-module _ (given : Given) (amount : ℕ) (good : BadSchedule given → ⊥) where
+-- what is left of a schedule that is set back: its length, its cycle numbers, and that they rise
+module _ (given : Given) (amount : ℕ) (up : Rises (given .cycles)) (same : length (given .cycles) ≡ length (given .lines)) where
   abbrev gone : ℕ
   gone = passed (given .cycles) amount - 1
 
@@ -133,9 +125,6 @@ module _ (given : Given) (amount : ℕ) (good : BadSchedule given → ⊥) where
 
   abbrev cycle : ℕ → ℕ
   cycle k = getD (given .cycles) k 0
-
-  pub same-length : length (given .cycles) ≡ length (given .lines)
-  same-length = accepted-same 64 (given .cycles) (given .lines) (good-schedule given .1 good)
 
   back-length : length back ≡ length (given .cycles) - gone
   back-length = length-map (drop gone (given .cycles)) (λ c. c - amount) ∙ length-drop gone (given .cycles)
@@ -149,23 +138,77 @@ module _ (given : Given) (amount : ℕ) (good : BadSchedule given → ⊥) where
 
   -- the records that were not passed are after the amount
   not-passed : (k : ℕ) → passed (given .cycles) amount ≤ k → k < length (given .cycles) → amount < cycle k
-  not-passed k low inside = go (decLt amount (cycle (passed (given .cycles) amount)))
+  not-passed k low inside = go (decLt amount (cycle first))
     where
+      first : ℕ
+      first = passed (given .cycles) amount
+
       go : Dec (amount < cycle (passed (given .cycles) amount)) → amount < cycle k
-      go (yes l) =
-          let rest = earlier given amount good (k - passed (given .cycles) amount) (passed (given .cycles) amount) k (omega (arith, low)) inside in
-          omega (arith, l, rest)
+      go (yes l) = let rest = earlier (given .cycles) up (k - first) first k (omega (arith, low)) inside in omega (arith, l, rest)
       go (no l) =
-          let more = passed-on (given .cycles) amount (passed (given .cycles) amount) (omega arith) (omega (arith, low, inside)) (omega (arith, l)) in
+          let more = passed-on (given .cycles) amount first (omega arith) (omega (arith, low, inside)) (omega (arith, l)) in
           absurd (omega (arith, more))
 
-  pub accepted-back : BadSchedule (setBack amount given) → ⊥
-  accepted-back (long h) = good (long (omega (arith, h, back-length)))
-  accepted-back (uneven other) = other (back-length ∙ ap (λ (n : ℕ). n - gone) same-length ∙ sym (length-drop gone (given .lines)))
-  accepted-back (falls k inside down) =
+  -- so it is accepted where there are not too many of them
+  accepted-back : length back ≤ 64 → BadSchedule (setBack amount given) → ⊥
+  accepted-back few (long h) = omega (arith, few, h)
+  accepted-back few (uneven other) = other (back-length ∙ ap (λ (n : ℕ). n - gone) same ∙ sym (length-drop gone (given .lines)))
+  accepted-back few (falls k inside down) =
       let there : suc (gone + k) < length (given .cycles) = omega (arith, inside, back-length) in
       let is : gone + suc k ≡ suc (gone + k) = omega arith in
       let next = cycle-back (suc k) ∙ ap (λ (i : ℕ). cycle i - amount) is in
-      let up = rises given amount good (gone + k) there in
+      let rise = up (gone + k) there in
       let past = not-passed (suc (gone + k)) (omega arith) there in
-      omega (arith, down, cycle-back k, next, up, past)
+      omega (arith, down, cycle-back k, next, rise, past)
+
+-- a schedule that was accepted is so when it is set back, and has the same line bytes in force
+module _ (given : Given) (amount : ℕ) (good : BadSchedule given → ⊥) where
+  same-length : length (given .cycles) ≡ length (given .lines)
+  same-length = accepted-same 64 (given .cycles) (given .lines) (good-schedule given .1 good)
+
+  up : Rises (given .cycles)
+  up = rises (given .cycles) (accepted-rising 64 (given .cycles) (given .lines) (good-schedule given .1 good))
+
+  pub good-back : BadSchedule (setBack amount given) → ⊥
+  good-back = accepted-back given amount up same-length (go (decLt 64 (length (given .cycles))))
+    where
+      go : Dec (64 < length (given .cycles)) → length (setBack amount given .cycles) ≤ 64
+      go (yes l) = absurd (good (long l))
+      go (no l) = let is = back-length given amount up same-length in omega (arith, l, is)
+
+  pub lines-back : (from to : ℕ) → amount ≤ from → SameLines amount given (setBack amount given) from to
+  lines-back from to back t low high = line-back given amount t same-length (omega (arith, low, back))
+
+-- and so is what is handed to a run
+module _
+    (given : Given) (amount to : ℕ) (up : rising (given .cycles) ≡ true) (same : length (given .cycles) ≡ length (given .lines))
+  where
+    abbrev some : ℕ
+    some = passed (given .cycles) to
+
+    abbrev cut : Given
+    cut = upTo to given
+
+    cut-length : length (cut .cycles) ≡ length (cut .lines)
+    cut-length = length-take some (given .cycles) ∙ ap (min some) same ∙ sym (length-take some (given .lines))
+
+    cut-rises : Rises (cut .cycles)
+    cut-rises k inside =
+        let is = length-take some (given .cycles) in
+        rw (getD-take some (given .cycles) k 0 (omega (arith, inside, is)), getD-take some (given .cycles) (suc k) 0 (omega (arith, inside, is)))
+        (rises (given .cycles) up k (omega (arith, inside, is)))
+
+    good-handed : length (handed amount to given .cycles) ≤ 64 → BadSchedule (handed amount to given) → ⊥
+    good-handed = accepted-back cut amount cut-rises cut-length
+
+    lines-handed : (from : ℕ) → amount ≤ from → SameLines amount given (handed amount to given) from to
+    lines-handed from back t low high =
+        line-back cut amount t cut-length (omega (arith, low, back)) ∙ cut-off 0 (given .cycles) (given .lines) to t up high
+
+pub what-is-handed-will-do : WhatIsHandedWillDo
+what-is-handed-will-do s m given amount budget up same few whole small near back =
+    let to = s .clock + budget in
+    let free =
+    run-accepted (setEarlier amount s) m (handed amount to given) budget .1
+    (record { memory = whole; schedule = good-handed given amount to up same few; spends = small; clock = near }) in
+    record { back = back; lines = lines-handed given amount to up same (s .clock) back; free = free }

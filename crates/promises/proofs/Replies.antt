@@ -148,7 +148,7 @@ fallen-after c [] k inside down = absurd (omega (arith, inside))
 fallen-after c (d ∷ ds) zero inside down = rw (le-ltb c d down)
 fallen-after c (d ∷ ds) (suc k) inside down = also (ltb c d) (fallen-after d ds k (omega (arith, inside)) down)
 
-fallen : (cs : List ℕ) (k : ℕ) → suc k < length cs → getD cs (suc k) 0 ≤ getD cs k 0 → rising cs ≡ false
+pub fallen : (cs : List ℕ) (k : ℕ) → suc k < length cs → getD cs (suc k) 0 ≤ getD cs k 0 → rising cs ≡ false
 unfolding rising
 fallen [] k inside down = absurd (omega (arith, inside))
 fallen (c ∷ cs) k inside down = fallen-after c cs k inside down

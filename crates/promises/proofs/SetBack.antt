@@ -13,7 +13,6 @@ use Rattle.turn.specs.Turn.{turnIs, turnOf}
 use Rattle.walk.specs.Clock.{atClock}
 use Rattle.walk.proofs.Clock.{no-turn-reads-the-clock}
 use Rattle.refusals.specs.Given.{Given, lineIn}
-use Rattle.refusals.specs.Refusals.{runRefusal}
 use Rattle.steps.specs.End.{End, endIs, endsHere, after}
 use Rattle.steps.specs.Steps.{goesOn, turnAt, nextState, nextMemory}
 use Rattle.steps.proofs.Loop.{run-stops, run-spends, run-steps, run-over}
@@ -25,7 +24,7 @@ use Rattle.promises.specs.Steps.{afterSteps, IsOfSteps}
 use Rattle.promises.proofs.Steps.{takes-steps, keeps, and-then}
 use Rattle.promises.proofs.Boundaries.{one-on}
 use Rattle.promises.proofs.Replies.{run-accepted}
-use Rattle.promises.proofs.Handed.{same-length, line-back, accepted-back}
+use Rattle.promises.proofs.Handed.{good-back, lines-back}
 
 module _ (given given′ : Given) (amount : ℕ) where
   -- the turn at a boundary, with the clock set back
@@ -181,17 +180,13 @@ a-replay-has-one-end s m given room room′ e e′ w bytes parts others most end
 pub the-clock-may-be-set-back : TheClockMayBeSetBack
 the-clock-may-be-set-back s m given amount budget back free =
     let a = run-accepted s m given budget .0 free in
-    let free′ : runRefusal (earlier amount s) m (setBack amount given) budget ≡ 0 =
+    let good = good-back given amount (a .schedule) in
+    let free′ =
     run-accepted (earlier amount s) m (setBack amount given) budget .1
-    (record {
-      memory = a .memory;
-      schedule = accepted-back given amount (a .schedule);
-      spends = a .spends;
-      clock = omega (arith, a .clock);
-    }) in
-    let lines : SameLines amount given (setBack amount given) (s .clock) (s .clock + budget) =
-    λ t low high. line-back given amount t (same-length given amount (a .schedule)) (omega (arith, back, low)) in
-    (free′,
-    run-taken (earlier amount s) m (setBack amount given) budget free′
-    ∙ goes-back given (setBack amount given) amount (suc budget) s m budget back lines
-    ∙ sym (ap (endEarlier amount) (run-taken s m given budget free)))
+    (record { memory = a .memory; schedule = good; spends = a .spends; clock = omega (arith, a .clock) }) in
+    let lines = lines-back given amount (a .schedule) (s .clock) (s .clock + budget) back in (
+      free′,
+      run-taken (earlier amount s) m (setBack amount given) budget free′
+          ∙ goes-back given (setBack amount given) amount (suc budget) s m budget back lines
+          ∙ sym (ap (endEarlier amount) (run-taken s m given budget free)),
+    )

@@ -50,9 +50,9 @@ TheClockMayBeSetBack =
 abbrev pub SameLines : ℕ → Given → Given → ℕ → ℕ → Type 0
 SameLines amount given given′ from to = (t : ℕ) → from ≤ t → t ≤ to → lineIn given′ (t - amount) ≡ lineIn given t
 
--- A run with the clock set back and another schedule may stand for a run from s under `given`: it is not refused, and the line bytes in
--- force are the same, from the clock of s through the last clock value that the budget may lead to. (The state s, its clock and `given` are
--- then no limit's matter: the clock may be any number, and the schedule of any length.)
+-- A run with the clock set back and another schedule may stand for the run from s under `given`: it is not refused, and the line bytes in
+-- force are the same, from the clock of s through the last clock value that the budget may lead to. That other run may be refused: the
+-- clock of s may be any number, and `given` of any length.
 pub record StandsFor (amount : ℕ) (s : State) (m : List ℕ) (given given′ : Given) (budget : ℕ) : Type 0 where
   pub back : amount ≤ s .clock
   pub lines : SameLines amount given given′ (s .clock) (s .clock + budget)
@@ -81,21 +81,30 @@ AStandInIsItsSteps =
     StandsFor amount s m given given′ budget →
     (n : ℕ) × IsOfSteps n s m given budget (standIn amount s m given′ budget)
 
--- What may be handed to a run: of the records those up to the last clock value that it may come to, set back by an amount. They are the
--- last one at or before the amount, which then stands at 0, and those after it up to that clock value.
-abbrev pub handed : ℕ → ℕ → Given → Given
-handed amount to given =
+-- of the records those at or before a clock value
+abbrev pub upTo : ℕ → Given → Given
+upTo to given =
     let some = passed (given .cycles) to in
-    setBack amount (givenIs (take some (given .cycles)) (take some (given .lines)))
+    givenIs (take some (given .cycles)) (take some (given .lines))
 
--- They have the same line bytes in force, whatever the number of records.
+-- What may be handed to a run: the records up to the last clock value that it may come to, set back. They are the last one at or before
+-- the amount, which then stands at 0, and those after it up to that clock value.
+abbrev pub handed : ℕ → ℕ → Given → Given
+handed amount to given = setBack amount (upTo to given)
+
+-- They will do, where they are at most 64: a run of any budget that it is not refused for may be handed these, from a clock that is set
+-- back by any amount, and under a schedule of any length.
 abbrev pub WhatIsHandedWillDo : Type 0
 WhatIsHandedWillDo =
-    (given : Given) (amount from to : ℕ) →
+    (s : State) (m : List ℕ) (given : Given) (amount budget : ℕ) →
     rising (given .cycles) ≡ true →
     length (given .cycles) ≡ length (given .lines) →
-    amount ≤ from →
-    SameLines amount given (handed amount to given) from to
+    length (handed amount (s .clock + budget) given .cycles) ≤ 64 →
+    length m ≡ 65536 →
+    budget ≤ 100000000 →
+    s .clock - amount + budget ≤ 4000000000 →
+    amount ≤ s .clock →
+    StandsFor amount s m given (handed amount (s .clock + budget) given) budget
 
 -- A replay from a state and a memory under a schedule: runs one after another, as in `OneAfterAnother`, but each of them a run that stands
 -- for the one from where the one before it ended. So clock and schedule have no limit. e is what they end with, all together, and `room` what
