@@ -16,7 +16,7 @@ use Rattle.schedule.proofs.Laws.{passed-on, accepted-same, accepted-rising, ris
 use Rattle.refusals.specs.Given.{Given, lineIn}
 use Rattle.promises.specs.Replies.{BadSchedule}
 use Rattle.promises.specs.Replies.BadSchedule.{long, falls, uneven}
-use Rattle.promises.specs.SetBack.{earlier as setEarlier, setBack, SameLines, upTo, handed, WhatIsHandedWillDo}
+use Rattle.promises.specs.SetBack.{earlier as setEarlier, gone, setBack, SameLines, upTo, handed, WhatIsHandedWillDo}
 use Rattle.promises.proofs.Replies.{good-schedule, run-accepted}
 use Rattle.promises.proofs.InForce.{Rises, rises, earlier}
 
@@ -76,15 +76,15 @@ line-back :
     (given : Given) (amount t : ℕ) → length (given .cycles) ≡ length (given .lines) → amount ≤ t →
     lineIn (setBack amount given) (t - amount) ≡ lineIn given t
 line-back given amount t same h =
-    taken-off amount 0 (drop gone (given .cycles)) (drop gone (given .lines)) t h ∙ go (decLt 0 (passed (given .cycles) amount))
+    taken-off amount 0 (drop (gone amount given) (given .cycles)) (drop (gone amount given) (given .lines)) t h
+    ∙ go (decLt 0 (passed (given .cycles) amount))
   where
-    gone : ℕ
-    gone = passed (given .cycles) amount - 1
-
-    go : Dec (0 < passed (given .cycles) amount) → inForce 0 (drop gone (given .cycles)) (drop gone (given .lines)) t ≡ lineIn given t
-    go (yes some) = left-out amount t h gone 0 (given .cycles) (given .lines) same (omega (arith, some))
+    go :
+        Dec (0 < passed (given .cycles) amount) →
+        inForce 0 (drop (gone amount given) (given .cycles)) (drop (gone amount given) (given .lines)) t ≡ lineIn given t
+    go (yes some) = left-out amount t h (gone amount given) 0 (given .cycles) (given .lines) same (omega (arith, some))
     go (no none) =
-        let is : passed (given .cycles) amount - 1 ≡ 0 = omega (arith, none) in
+        let is : gone amount given ≡ 0 = omega (arith, none) in
         ap (λ (g : ℕ). inForce 0 (drop g (given .cycles)) (drop g (given .lines)) t) is
 
 -- the records up to a clock value have the line bytes up to there
@@ -117,24 +117,24 @@ cut-off before (c ∷ cs) (l ∷ ls) to t up h =
 
 -- what is left of a schedule that is set back: its length, its cycle numbers, and that they rise
 module _ (given : Given) (amount : ℕ) (up : Rises (given .cycles)) (same : length (given .cycles) ≡ length (given .lines)) where
-  abbrev gone : ℕ
-  gone = passed (given .cycles) amount - 1
+  abbrev g : ℕ
+  g = gone amount given
 
   abbrev back : List ℕ
-  back = map (λ c. c - amount) (drop gone (given .cycles))
+  back = setBack amount given .cycles
 
   abbrev cycle : ℕ → ℕ
   cycle k = getD (given .cycles) k 0
 
-  back-length : length back ≡ length (given .cycles) - gone
-  back-length = length-map (drop gone (given .cycles)) (λ c. c - amount) ∙ length-drop gone (given .cycles)
+  back-length : length back ≡ length (given .cycles) - g
+  back-length = length-map (drop g (given .cycles)) (λ c. c - amount) ∙ length-drop g (given .cycles)
 
-  cycle-back : (k : ℕ) → getD back k 0 ≡ cycle (gone + k) - amount
+  cycle-back : (k : ℕ) → getD back k 0 ≡ cycle (g + k) - amount
   cycle-back k =
       let none : 0 ≡ 0 - amount = omega arith in
       ap (λ (d : ℕ). getD back k d) none
-      ∙ List·getD-map (λ c. c - amount) (drop gone (given .cycles)) k 0
-      ∙ ap (λ (c : ℕ). c - amount) (getD-drop gone (given .cycles) k 0)
+      ∙ List·getD-map (λ c. c - amount) (drop g (given .cycles)) k 0
+      ∙ ap (λ (c : ℕ). c - amount) (getD-drop g (given .cycles) k 0)
 
   -- the records that were not passed are after the amount
   not-passed : (k : ℕ) → passed (given .cycles) amount ≤ k → k < length (given .cycles) → amount < cycle k
@@ -152,13 +152,13 @@ module _ (given : Given) (amount : ℕ) (up : Rises (given .cycles)) (same : len
   -- so it is accepted where there are not too many of them
   accepted-back : length back ≤ 64 → BadSchedule (setBack amount given) → ⊥
   accepted-back few (long h) = omega (arith, few, h)
-  accepted-back few (uneven other) = other (back-length ∙ ap (λ (n : ℕ). n - gone) same ∙ sym (length-drop gone (given .lines)))
+  accepted-back few (uneven other) = other (back-length ∙ ap (λ (n : ℕ). n - g) same ∙ sym (length-drop g (given .lines)))
   accepted-back few (falls k inside down) =
-      let there : suc (gone + k) < length (given .cycles) = omega (arith, inside, back-length) in
-      let is : gone + suc k ≡ suc (gone + k) = omega arith in
+      let there : suc (g + k) < length (given .cycles) = omega (arith, inside, back-length) in
+      let is : g + suc k ≡ suc (g + k) = omega arith in
       let next = cycle-back (suc k) ∙ ap (λ (i : ℕ). cycle i - amount) is in
-      let rise = up (gone + k) there in
-      let past = not-passed (suc (gone + k)) (omega arith) there in
+      let rise = up (g + k) there in
+      let past = not-passed (suc (g + k)) (omega arith) there in
       omega (arith, down, cycle-back k, next, rise, past)
 
 -- a schedule that was accepted is so when it is set back, and has the same line bytes in force

@@ -30,12 +30,15 @@ endEarlier amount e = endIs (e .reply) (earlier amount (e .state)) (e .memory) (
 abbrev pub endLater : ℕ → End → End
 endLater amount e = endIs (e .reply) (later amount (e .state)) (e .memory) (e .cycles)
 
+-- how many records are left out of a schedule that is set back by an amount: those at or before it, but for the last of them
+abbrev pub gone : ℕ → Given → ℕ
+gone amount given = passed (given .cycles) amount - 1
+
 -- A schedule set back by an amount: every cycle number is less by it, and none is below 0. Of the records at or before the amount only
--- the last is left, which then stands at 0.
+-- the last is kept, which then stands at 0.
 abbrev pub setBack : ℕ → Given → Given
 setBack amount given =
-    let gone = passed (given .cycles) amount - 1 in
-    givenIs (map (λ c. c - amount) (drop gone (given .cycles))) (drop gone (given .lines))
+    givenIs (map (λ c. c - amount) (drop (gone amount given) (given .cycles))) (drop (gone amount given) (given .lines))
 
 -- A run with the clock and every cycle number less by one amount leaves the same, but for the clock, which is less by that amount.
 abbrev pub TheClockMayBeSetBack : Type 0
@@ -92,8 +95,8 @@ upTo to given =
 abbrev pub handed : ℕ → ℕ → Given → Given
 handed amount to given = setBack amount (upTo to given)
 
--- They will do, where they are at most 64: a run of any budget that it is not refused for may be handed these, from a clock that is set
--- back by any amount, and under a schedule of any length.
+-- They will do, where they are at most 64 and the run keeps to its other limits: whatever the clock of s is, and however long the
+-- schedule, of which only this is asked, that its cycle numbers rise and that it has a line byte for each.
 abbrev pub WhatIsHandedWillDo : Type 0
 WhatIsHandedWillDo =
     (s : State) (m : List ℕ) (given : Given) (amount budget : ℕ) →
@@ -106,9 +109,9 @@ WhatIsHandedWillDo =
     amount ≤ s .clock →
     StandsFor amount s m given (handed amount (s .clock + budget) given) budget
 
--- A replay from a state and a memory under a schedule: runs one after another, as in `OneAfterAnother`, but each of them a run that stands
--- for the one from where the one before it ended. So clock and schedule have no limit. e is what they end with, all together, and `room` what
--- they may spend, all together.
+-- A replay from a state and a memory under a schedule: runs one after another, as in `OneAfterAnother`, but each of them stands for the
+-- one that would go on from where the one before it ended. So the clock and the schedule have no limit. e is what they end with, all
+-- together, and `room` what they may spend, all together: the cycles that the earlier ones used, and the last one's budget.
 pub data Replay (s : State) (m : List ℕ) (given : Given) : ℕ → End → Type 0 where
   one-part :
       (amount budget : ℕ) (given′ : Given) →
