@@ -16,8 +16,8 @@ use Rattle.schedule.proofs.Laws.{passed-on, accepted-same, accepted-rising, ris
 use Rattle.refusals.specs.Given.{Given, lineIn}
 use Rattle.promises.specs.Replies.{BadSchedule}
 use Rattle.promises.specs.Replies.BadSchedule.{long, falls, uneven}
-use Rattle.promises.specs.SetBack.{earlier as setEarlier, gone, setBack, SameLines, upTo, handed, WhatIsHandedWillDo}
-use Rattle.promises.proofs.Replies.{good-schedule, run-accepted}
+use Rattle.promises.specs.SetBack.{gone, setBack, SameLines, upTo, handed}
+use Rattle.promises.proofs.Replies.{good-schedule}
 use Rattle.promises.proofs.InForce.{Rises, rises, earlier}
 
 -- a record is at or before a clock value, and is so with the amount taken off both
@@ -198,17 +198,9 @@ module _
         rw (getD-take some (given .cycles) k 0 (omega (arith, inside, is)), getD-take some (given .cycles) (suc k) 0 (omega (arith, inside, is)))
         (rises (given .cycles) up k (omega (arith, inside, is)))
 
-    good-handed : length (handed amount to given .cycles) ≤ 64 → BadSchedule (handed amount to given) → ⊥
+    pub good-handed : length (handed amount to given .cycles) ≤ 64 → BadSchedule (handed amount to given) → ⊥
     good-handed = accepted-back cut amount cut-rises cut-length
 
-    lines-handed : (from : ℕ) → amount ≤ from → SameLines amount given (handed amount to given) from to
+    pub lines-handed : (from : ℕ) → amount ≤ from → SameLines amount given (handed amount to given) from to
     lines-handed from back t low high =
         line-back cut amount t cut-length (omega (arith, low, back)) ∙ cut-off 0 (given .cycles) (given .lines) to t up high
-
-pub what-is-handed-will-do : WhatIsHandedWillDo
-what-is-handed-will-do s m given amount budget up same few whole small near back =
-    let to = s .clock + budget in
-    let free =
-    run-accepted (setEarlier amount s) m (handed amount to given) budget .1
-    (record { memory = whole; schedule = good-handed given amount to up same few; spends = small; clock = near }) in
-    record { back = back; lines = lines-handed given amount to up same (s .clock) back; free = free }

@@ -18,13 +18,13 @@ use Rattle.steps.specs.Steps.{goesOn, turnAt, nextState, nextMemory}
 use Rattle.steps.proofs.Loop.{run-stops, run-spends, run-steps, run-over}
 use Rattle.run.proofs.Refusals.{run-taken}
 use Rattle.promises.specs.SetBack.{earlier, endEarlier, endLater, SameLines, StandsFor, standIn, OnlyTheLinesInForceCount, AStandInIsItsSteps}
-use Rattle.promises.specs.SetBack.{setBack, TheClockMayBeSetBack, AReplayIsItsSteps, AReplayHasOneEnd}
+use Rattle.promises.specs.SetBack.{setBack, TheClockMayBeSetBack, handed, WhatIsHandedWillDo, AReplayIsItsSteps, AReplayHasOneEnd}
 use Rattle.promises.specs.SetBack.Replay.{one-part, one-more-part}
 use Rattle.promises.specs.Steps.{afterSteps, IsOfSteps}
 use Rattle.promises.proofs.Steps.{takes-steps, keeps, and-then}
 use Rattle.promises.proofs.Boundaries.{one-on}
 use Rattle.promises.proofs.Replies.{run-accepted}
-use Rattle.promises.proofs.Handed.{good-back, lines-back}
+use Rattle.promises.proofs.Handed.{good-back, lines-back, good-handed, lines-handed}
 
 module _ (given given′ : Given) (amount : ℕ) where
   -- the turn at a boundary, with the clock set back
@@ -190,3 +190,11 @@ the-clock-may-be-set-back s m given amount budget back free =
           ∙ goes-back given (setBack amount given) amount (suc budget) s m budget back lines
           ∙ sym (ap (endEarlier amount) (run-taken s m given budget free)),
     )
+
+pub what-is-handed-will-do : WhatIsHandedWillDo
+what-is-handed-will-do s m given amount budget up same few whole small near back =
+    let to = s .clock + budget in
+    let free =
+    run-accepted (earlier amount s) m (handed amount to given) budget .1
+    (record { memory = whole; schedule = good-handed given amount to up same few; spends = small; clock = near }) in
+    record { back = back; lines = lines-handed given amount to up same (s .clock) back; free = free }
