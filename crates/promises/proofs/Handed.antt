@@ -203,4 +203,5 @@ module _
 
     pub lines-handed : (from : ℕ) → amount ≤ from → SameLines amount given (handed amount to given) from to
     lines-handed from back t low high =
-        line-back cut amount t cut-length (omega (arith, low, back)) ∙ cut-off 0 (given .cycles) (given .lines) to t up high
+        line-back cut amount t cut-length (omega (arith, low, back))
+        ∙ cut-off 0 (given .cycles) (given .lines) to t up (omega (arith, high))
