@@ -7,7 +7,7 @@
 mod common;
 
 use common::{asked, number, state_of};
-use cpu12::{doors, lines, Error, LongRecord, Replay, State};
+use cpu12::{doors, lines, Error, LongRecord, Machine, Replay, State};
 use second::boundary::{next, Next};
 use second::cpu::Cpu;
 use second::random::Random;
@@ -234,19 +234,51 @@ fn a_request_at_a_stop() {
     }
 }
 
-/// A run longer than the machine's largest budget, with records on both sides of it.
+/// A run longer than the machine's largest budget, with records on both sides of it. Before the first of them one run of the machine
+/// stands in for the second emulator, which would take long.
 fn beyond_one_budget() {
-    let emacs = [0x18, 0x12, 0x18, 0x00];
-    let mut program = vec![0x10, 0xAF]; // ANDCC #$AF
-    program.extend(emacs.iter().cycle().take(4 * 20));
-    program.extend([0x20, 0xAE]); // BRA to the ANDCC
-    let (memory, cpu) = image(&program, &counting_handlers());
+    let (mut memory, cpu) = image(&loop_of_emacs(), &counting_handlers());
     let start = 3_999_999_990;
     let record = |n: u64| LongRecord { cycle: start + 99_999_700 + 7 * n, line: (n % 5) as u8 };
     let schedule: Vec<LongRecord> = (0..90).map(record).collect();
-    let mut pair = Pair::new(memory, cpu, start, &schedule);
-    assert_eq!(pair.run(100_000_007, &|| "a long run".to_string()), 0);
-    assert!(pair.memory[0x1100..0x110A].iter().any(|&count| count > 0), "no request was entered");
+    let budget = 100_000_500;
+
+    let mut replay = Replay::new(state_of(&cpu), start, &schedule).expect("the cycles rise");
+    let mut replayed = memory.clone();
+    let reply = number(replay.run(&mut replayed, budget));
+
+    let mut machine = Machine::new(state_of(&cpu));
+    let first = u64::from(machine.run(&mut memory, &[], 99_999_000).expect("it does not stop"));
+    let time = start + first;
+    let mut one_piece = OnePiece { cpu: cpu_of(&machine.state()), time, schedule: &schedule };
+    let (expected, rest) = one_piece.run(&mut memory, budget - first);
+    assert_eq!((reply, replay.cycles(), replay.time()), (expected, first + rest, one_piece.time));
+    assert_eq!(replay.state(), state_of(&one_piece.cpu));
+    assert!(replayed == memory, "the memories differ after a long run");
+    assert!(memory[0x1100..0x110A].iter().any(|&count| count > 0), "no request was entered");
+}
+
+/// A state, as the second emulator has it, with the clock at 0.
+fn cpu_of(state: &State) -> Cpu {
+    Cpu {
+        a: state.a,
+        b: state.b,
+        x: state.x,
+        y: state.y,
+        sp: state.sp,
+        pc: state.pc,
+        ccr: state.ccr,
+        waiting: state.waiting,
+        clock: 0,
+    }
+}
+
+/// ANDCC #$AF, EMACS $1800 twenty times, BRA to the ANDCC: the fewest steps for its cycles.
+fn loop_of_emacs() -> Vec<u8> {
+    let mut program = vec![0x10, 0xAF];
+    program.extend([0x18, 0x12, 0x18, 0x00].iter().cycle().take(4 * 20));
+    program.extend([0x20, 0xAC]);
+    program
 }
 
 /// The end of 64 bits, and the order of the refusals.
