@@ -4,7 +4,8 @@ mod accidents;
 
 use crate::museum::{answer_by, is_open, list_at, DAY, REHANG, ROOMS};
 use crate::old;
-use crate::sign::{Sign, IMAGE};
+use crate::processor::Second;
+use crate::sign::{Sign, CYCLES_A_MICROSECOND, CYCLES_A_MINUTE, IMAGE};
 use crate::tiers::{Asked, DiskTier, MemoryTier, Tier};
 use std::io::{self, Write};
 
@@ -44,32 +45,19 @@ fn tell_of_two_clocks(out: &mut impl Write) -> io::Result<()> {
 }
 
 fn tell_of_one_clock(out: &mut impl Write) -> io::Result<()> {
-    let mut sign = Asked::new(Sign::new())?;
-    let mut memory = Asked::new(MemoryTier::new())?;
-    let mut disk = Asked::new(DiskTier::new()?)?;
+    let image = IMAGE.len();
     writeln!(out, "\nThe sign's own firmware, with one clock")?;
-    writeln!(out, "  The sign and both tiers run the same image of {} bytes.", IMAGE.len())?;
+    writeln!(out, "  The sign and both tiers run the same image of {} bytes.", image)?;
+    writeln!(out, "  In the tiers the proved machine runs it, in the sign the second emulator.")?;
+    writeln!(out, "  It counts the minutes itself, and decides by them alone.")?;
+    let mut guided = Guided::new()?;
+    guided.replay(out)?;
+    let Guided { mut sign, mut memory, disk } = guided;
     writeln!(
         out,
-        "  The proved machine runs it in the tiers, and the second emulator in the sign."
+        "  A minute has {} cycles at {} MHz; the replay leaves most of the idle ones out.",
+        CYCLES_A_MINUTE, CYCLES_A_MICROSECOND
     )?;
-    writeln!(out, "  It counts the minutes itself, and decides by them alone.")?;
-    for minute in 0..MINUTES {
-        for room in ROOMS {
-            let expected = sign.answer(minute, room)?;
-            if is_open(minute) {
-                memory.compare(minute, room, expected)?;
-            }
-            if is_open(minute) && minute % SELDOM == 0 {
-                disk.compare(minute, room, expected)?;
-            }
-        }
-        if minute == PARTY {
-            write!(out, "  The sign says {}", sign.answer(PARTY, PARTY_ROOM)?)?;
-            write!(out, ", the disk tier {}", disk.answer(PARTY, PARTY_ROOM)?)?;
-            writeln!(out, ", the memory tier {}.", memory.answer(PARTY, PARTY_ROOM)?)?;
-        }
-    }
     tell_of_answers(out, "sign", &sign)?;
     tell_of_answers(out, "disk tier", &disk)?;
     tell_of_answers(out, "memory tier", &memory)?;
@@ -77,7 +65,46 @@ fn tell_of_one_clock(out: &mut impl Write) -> io::Result<()> {
         out,
         "  Answers unlike the sign's: {} from the disk tier, {} from the memory tier.",
         disk.unlike, memory.unlike
-    )
+    )?;
+    let strays = sign.strays()? + memory.strays()?;
+    writeln!(out, "  Outside of what a tier keeps of its memory, it had changed {} bytes.", strays)
+}
+
+/// The sign on the door and the two tiers of the guide.
+struct Guided {
+    sign: Asked<Sign<Second>>,
+    memory: Asked<MemoryTier>,
+    disk: Asked<DiskTier>,
+}
+
+impl Guided {
+    fn new() -> io::Result<Guided> {
+        let sign = Asked::new(Sign::new())?;
+        let memory = Asked::new(MemoryTier::new())?;
+        let disk = Asked::new(DiskTier::new()?)?;
+        Ok(Guided { sign, memory, disk })
+    }
+
+    /// Asks all three for every room, minute by minute, and tells what they say to the school party.
+    fn replay(&mut self, out: &mut impl Write) -> io::Result<()> {
+        for minute in 0..MINUTES {
+            for room in ROOMS {
+                let expected = self.sign.answer(minute, room)?;
+                if is_open(minute) {
+                    self.memory.compare(minute, room, expected)?;
+                }
+                if is_open(minute) && minute % SELDOM == 0 {
+                    self.disk.compare(minute, room, expected)?;
+                }
+            }
+            if minute == PARTY {
+                write!(out, "  The sign says {}", self.sign.answer(PARTY, PARTY_ROOM)?)?;
+                write!(out, ", the disk tier {}", self.disk.answer(PARTY, PARTY_ROOM)?)?;
+                writeln!(out, ", the memory tier {}.", self.memory.answer(PARTY, PARTY_ROOM)?)?;
+            }
+        }
+        Ok(())
+    }
 }
 
 /// The cycles of the three are far apart, and yet their lists end in the same minute.

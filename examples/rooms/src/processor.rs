@@ -1,7 +1,7 @@
 //! What runs the firmware: the proved machine in both tiers of the guide, and the second emulator in the sign on the door. They are
 //! two readings of the manual that share no text, so where their answers are alike, that says something.
 
-use cpu12::{Error, Machine, Record, State};
+use cpu12::{doors, Error, Machine, Record, State};
 use second::cpu::Cpu;
 use second::machine::{self, Reply};
 
@@ -35,12 +35,15 @@ pub trait Processor: Clone {
 pub struct Proved(Machine);
 
 impl Proved {
-    pub fn of_state(state: State) -> Proved {
-        Proved(Machine::new(state))
+    /// The state record, to be kept.
+    pub fn record(&self) -> [u8; doors::STATE] {
+        self.0.state().to_record()
     }
 
-    pub fn state(&self) -> State {
-        self.0.state()
+    /// The machine of which this record was kept.
+    pub fn of_record(record: &[u8]) -> Proved {
+        let record = record.try_into().expect("the record has its length");
+        Proved(Machine::new(State::of_record(record)))
     }
 
     fn ended(reply: Result<u32, Error>) -> Ended {

@@ -2,7 +2,7 @@
 
 use crate::museum::{List, DAY};
 use crate::processor::{Ended, Processor, Proved, Seen};
-use cpu12::{doors, Record, State};
+use cpu12::{doors, Record};
 use std::fmt;
 use std::ops::Range;
 
@@ -11,6 +11,7 @@ pub const IMAGE: &[u8; doors::MEMORY] = include_bytes!("../firmware/sign.bin");
 
 /// The sign's bus clock, in cycles a microsecond: 8 MHz.
 pub const CYCLES_A_MICROSECOND: u32 = 8;
+pub const CYCLES_A_MINUTE: u32 = 60_000_000 * CYCLES_A_MICROSECOND;
 
 /// The program's first address. Four words there say where the mailbox is, where the saved blocks begin and end, and at which
 /// address the firmware stops once its list is safe. What it writes lies from the mailbox to the end of the saved blocks.
@@ -50,9 +51,9 @@ pub const NO_LIST: u8 = 0;
 pub const NUMBERS: u32 = 256;
 
 /// More cycles than the firmware needs to start, to count a minute, to answer a question and to save its list.
-const STARTING: u32 = 1000;
+const STARTING: u32 = 700;
 const COUNTING: u32 = 80;
-const ANSWERING: u32 = 200;
+const ANSWERING: u32 = 160;
 const SAVING: u32 = 1000;
 
 /// An entry of a list: in this room hangs this picture, up to but not including this minute.
@@ -110,6 +111,7 @@ pub struct Sign<P> {
     processor: P,
     memory: Vec<u8>,
     warning: Option<u32>,
+    counts_idle: bool,
     idle: u32,
 }
 
@@ -117,7 +119,7 @@ pub struct Sign<P> {
 impl Sign<Proved> {
     /// The state record and the memory that the firmware writes.
     pub fn to_bytes(&self) -> Vec<u8> {
-        let mut bytes = self.processor.state().to_record().to_vec();
+        let mut bytes = self.processor.record().to_vec();
         bytes.extend_from_slice(&self.memory[written()]);
         bytes
     }
@@ -125,11 +127,10 @@ impl Sign<Proved> {
     /// The sign of which a tier kept these bytes.
     pub fn of_bytes(bytes: &[u8]) -> Sign<Proved> {
         let (record, kept) = bytes.split_at(doors::STATE);
-        let record = record.try_into().expect("the record has its length");
         let mut memory = IMAGE.to_vec();
         memory[written()].copy_from_slice(kept);
-        let processor = Proved::of_state(State::of_record(record));
-        Sign { processor, memory, warning: None, idle: 0 }
+        let processor = Proved::of_record(record);
+        Sign { processor, memory, warning: None, counts_idle: false, idle: 0 }
     }
 }
 
@@ -139,17 +140,17 @@ impl<P: Processor> Sign<P> {
         Sign::switched_on(IMAGE.to_vec())
     }
 
-    /// The sign after the power has gone and come back: the saved blocks are all that is left of its memory.
-    pub fn after_power_cut(&self) -> Sign<P> {
-        let mut memory = IMAGE.to_vec();
-        fill_with_noise(&mut memory[written()], self.clock());
-        memory[saved_blocks()].copy_from_slice(self.saved());
-        Sign::switched_on(memory)
+    /// The sign after the power has gone and come back: the image and the saved blocks are all that is left of its memory.
+    pub fn after_power_cut(mut self) -> Sign<P> {
+        let clock = self.clock();
+        fill_with_noise(&mut self.memory[mailbox().start..saved_blocks().start], clock);
+        Sign::switched_on(self.memory)
     }
 
     fn switched_on(memory: Vec<u8>) -> Sign<P> {
-        let mut sign = Sign { processor: P::reset(&memory), memory, warning: None, idle: 0 };
-        sign.finish(STARTING);
+        let processor = P::reset(&memory);
+        let mut sign = Sign { processor, memory, warning: None, counts_idle: false, idle: 0 };
+        sign.finish(&[], STARTING);
         sign
     }
 
@@ -162,9 +163,20 @@ impl<P: Processor> Sign<P> {
         self.seen().clock
     }
 
-    /// How many of these cycles the firmware only waited.
+    /// From now on idle cycles are counted.
+    pub fn count_idle(&mut self) {
+        self.counts_idle = true;
+    }
+
+    /// In how many cycles the firmware did nothing but wait, since they are counted.
     pub fn idle(&self) -> u32 {
         self.idle
+    }
+
+    /// How many bytes are not the image's, beside those that a tier keeps.
+    pub fn strays(&self) -> usize {
+        let (memory, kept) = (&self.memory, written());
+        (0..memory.len()).filter(|at| !kept.contains(at) && memory[*at] != IMAGE[*at]).count()
     }
 
     /// The bytes of both saved blocks.
@@ -288,19 +300,36 @@ impl<P: Processor> Sign<P> {
         &self.memory[mailbox()]
     }
 
-    /// Raises a line for one step, long enough for a firmware that waits, and gives it so many cycles, unless the warning comes.
+    /// Raises a line for one cycle, long enough for a firmware that waits, and gives it so many cycles, unless the warning comes.
     fn signal(&mut self, line: u8, cycles: u32) -> Result<(), Warned> {
+        let now = self.clock();
+        let end = now + cycles;
         match self.warning {
-            Some(warning) if warning < self.clock() + cycles => {
-                Err(self.run_into_warning(line, warning))
-            }
-            _ => {
-                let begun = self.clock();
-                self.step(line);
-                self.finish(cycles - (self.clock() - begun));
-                Ok(())
-            }
+            Some(warning) if warning < end => return Err(self.run_into_warning(line, warning)),
+            _ if self.counts_idle => self.finish_by_steps(line, end),
+            _ => self.finish(&up_for_a_cycle(now, line), end),
         }
+        Ok(())
+    }
+
+    /// A run in which the firmware finishes its work and waits.
+    fn finish(&mut self, schedule: &[Record], end: u32) {
+        let cycles = end - self.clock();
+        let ended = self.processor.run(&mut self.memory, schedule, cycles);
+        assert_eq!(ended, Ended::Spent, "the firmware stopped");
+        assert!(self.seen().waiting, "the firmware did not finish its work in time");
+    }
+
+    /// The same run, taken apart to count its idle cycles: steps until the firmware waits, and then a run of what is left, in which
+    /// it idles. A run equals its steps taken one after another.
+    fn finish_by_steps(&mut self, line: u8, end: u32) {
+        self.step(line);
+        while !self.seen().waiting {
+            self.step(0);
+            assert!(self.clock() <= end, "the firmware did not finish its work in time");
+        }
+        self.idle += end - self.clock();
+        self.finish(&[], end);
     }
 
     fn step(&mut self, line: u8) {
@@ -308,26 +337,11 @@ impl<P: Processor> Sign<P> {
         assert_eq!(ended, Ended::Spent, "the firmware stopped");
     }
 
-    /// Steps until the firmware waits, and then a run of what is left of its cycles, all of them idle. A run equals its steps taken
-    /// one after another: this is one run, taken apart to count them.
-    fn finish(&mut self, cycles: u32) {
-        let end = self.clock() + cycles;
-        while !self.seen().waiting {
-            self.step(0);
-            assert!(self.clock() <= end, "the firmware did not finish its work in time");
-        }
-        let idle = end - self.clock();
-        self.processor.run(&mut self.memory, &[], idle);
-        assert!(self.seen().waiting && self.clock() == end, "the firmware does not wait");
-        self.idle += idle;
-    }
-
     /// A run to the last step boundary before the warning, single steps until the handler is entered, and a run to where the list
     /// is safe. The other line is up in the first cycle.
     fn run_into_warning(&mut self, line: u8, warning: u32) -> Warned {
         let now = self.clock();
-        let calm = [Record { cycle: now, line }, Record { cycle: now + 1, line: 0 }];
-        self.processor.run(&mut self.memory, &calm, warning - now);
+        self.processor.run(&mut self.memory, &up_for_a_cycle(now, line), warning - now);
         assert_eq!(self.seen().ccr & X_MASK, 0, "the firmware takes no warning");
         while self.seen().ccr & X_MASK == 0 {
             let signalled = if self.clock() == now { line } else { 0 };
@@ -345,6 +359,10 @@ impl<P: Processor> Sign<P> {
     fn has_saved(&self) -> bool {
         usize::from(self.seen().pc) == word_of_directory(3)
     }
+}
+
+fn up_for_a_cycle(now: u32, line: u8) -> [Record; 2] {
+    [Record { cycle: now, line }, Record { cycle: now + 1, line: 0 }]
 }
 
 /// What a memory may hold when the power comes back: bytes that follow no rule, others for each seed.

@@ -53,18 +53,23 @@ impl<P: Processor> Save<P> {
         Save::coming(cut.after_power_cut(), self.nth + 1, self.older)
     }
 
-    /// Cuts the supply at every cycle from the warning on until all is safe. Where the cut falls into a step that stores a word, each
-    /// of its two bytes alone may have been stored.
+    /// Cuts the supply at every cycle from the warning on until all is safe. A cut leaves what the last whole step left; and where the
+    /// step after it stores a word, each of its two bytes alone may have been stored.
     fn cuts(&self) -> Cuts {
         let mut cuts = Cuts::default();
+        let mut last_step = None;
         loop {
             let (cut, is_safe) = self.sign.warned_for(cuts.safe_after);
-            cuts.count(self, &cut);
+            let step = Some(cut.clock());
+            if step != last_step && !is_safe {
+                for (at, byte) in cut.about_to_save() {
+                    cuts.count(self, cut.with_saved(at, byte));
+                }
+            }
+            last_step = step;
+            cuts.count(self, cut);
             if is_safe {
                 return cuts;
-            }
-            for (at, byte) in cut.about_to_save() {
-                cuts.count(self, &cut.with_saved(at, byte));
             }
             cuts.safe_after += 1;
         }
@@ -86,7 +91,7 @@ pub struct Cuts {
 }
 
 impl Cuts {
-    fn count<P: Processor>(&mut self, save: &Save<P>, cut: &Sign<P>) {
+    fn count<P: Processor>(&mut self, save: &Save<P>, cut: Sign<P>) {
         let mut sign = cut.after_power_cut();
         let told = Told::by(&mut sign);
         self.tries += 1;

@@ -115,6 +115,11 @@ impl<T: Tier> Asked<T> {
         Ok(Asked { tier, times: 0, cycles: 0, idle: 0, unlike: 0, out_of_date: None })
     }
 
+    /// How many bytes the firmware changed that a tier does not keep.
+    pub fn strays(&mut self) -> io::Result<usize> {
+        self.tier.with_sign(|sign| sign.strays())
+    }
+
     /// Asks, and compares the answer with that of the sign on the door.
     pub fn compare(&mut self, minute: u32, room: u8, expected: Answer) -> io::Result<()> {
         self.unlike += u32::from(self.answer(minute, room)? != expected);
@@ -124,6 +129,7 @@ impl<T: Tier> Asked<T> {
     /// What it says of a room in this minute, once it is up to date.
     pub fn answer(&mut self, minute: u32, room: u8) -> io::Result<Answer> {
         let (answer, was_out_of_date, cycles, idle) = self.tier.with_sign(|sign| {
+            sign.count_idle();
             let (clock, idle) = (sign.clock(), sign.idle());
             let (answer, was_out_of_date) = bring_up_to_date(sign, minute, room);
             (answer, was_out_of_date, sign.clock() - clock, sign.idle() - idle)

@@ -119,6 +119,14 @@ fn tell_of_entries(out: &mut impl Write, tally: &Tally) -> io::Result<()> {
     writeln!(out, "  All was safe after at most {} cycles.", tally.safe_after)
 }
 
+fn times(count: u32) -> String {
+    match count {
+        0 => "never".to_string(),
+        1 => "once".to_string(),
+        _ => format!("{} times", count),
+    }
+}
+
 fn tell_of_recovery(out: &mut impl Write, right: u32, tries: u32) -> io::Result<()> {
     writeln!(
         out,
@@ -134,14 +142,23 @@ fn tell_of_cuts(out: &mut impl Write, trial: &Found<Trial>) -> io::Result<()> {
     writeln!(out, "  Where a word is being stored, each of its two bytes may be stored alone.")?;
     writeln!(
         out,
-        "  The first save, cut {} times: empty as before {} times, the whole new save {} times, a mixture {} times.",
-        tries, empty, newer, mixed
+        "  In the first save of all, {} cuts: then the list is empty {}, the whole new one {}, and a mixture {}.",
+        tries,
+        times(empty),
+        times(newer),
+        times(mixed)
     )?;
     for (name, cuts) in &trial.found.later {
+        let Cuts { tries, older, newer, mixed, empty, .. } = *cuts;
         writeln!(
             out,
-            "  The {}, cut {} times: the whole older save {} times, the whole new one {} times, a mixture {} times, empty {} times.",
-            name, cuts.tries, cuts.older, cuts.newer, cuts.mixed, cuts.empty
+            "  In the {}, {} cuts: then it is the whole older one {}, the whole new one {}, a mixture {}, and empty {}.",
+            name,
+            tries,
+            times(older),
+            times(newer),
+            times(mixed),
+            times(empty)
         )?;
     }
     let sum = |number: fn(&Cuts) -> u32| trial.found.all_cuts().map(number).sum();
@@ -155,13 +172,14 @@ fn tell_of_hold_up(out: &mut impl Write, cycles: u32) -> io::Result<()> {
     writeln!(out, "\nHow long the supply has to hold after its warning")?;
     writeln!(
         out,
-        "  Saving took at most {} cycles; at {} MHz that is {:.1} microseconds.",
+        "  All was safe after at most {} cycles; at {} MHz that is {:.1} microseconds.",
         cycles, CYCLES_A_MICROSECOND, saving
     )?;
     writeln!(
         out,
-        "  A supply that holds for {} microseconds leaves a margin of {:.1}.",
+        "  The supply has to hold for {} microseconds, or {} cycles: the margin is {:.1} microseconds.",
         HOLD_UP,
+        HOLD_UP * CYCLES_A_MICROSECOND,
         f64::from(HOLD_UP) - saving
     )
 }
