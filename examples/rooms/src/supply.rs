@@ -14,8 +14,8 @@ struct Save<P> {
     newer: Told,
 }
 
-/// The minute of a save. The first is from before the rehang, and from the third on the time needs both its words: so each list and
-/// time is unlike the two saved before it in all its parts.
+/// The minute of a save. The first is from before the rehang and the second from after it, so that no entry of their lists is alike;
+/// the time of the third differs from both in both its words. So a mixture of them is none of them.
 fn minute_of(nth: u32) -> u32 {
     match nth {
         1 => REHANG - 1,
