@@ -114,7 +114,7 @@ pub struct Row {
 }
 
 impl Row {
-    /// Goes on until the save with this number is the coming one.
+    /// Goes on until this save is the coming one.
     fn until<P: Processor>(first: Save<P>, nth: u32) -> (Row, Save<P>) {
         let (mut row, mut save, mut last) = (Row::default(), first, None);
         while save.nth < nth {
