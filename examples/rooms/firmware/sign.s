@@ -6,19 +6,22 @@
 ;
 ; Nothing that the warning saves is ever changed in place. The new list, or the new time, is built in a spare copy, and one store
 ; of one address then puts it in use. So wherever the warning comes, it finds a whole list and a whole time.
+;
+; Nothing that was saved is changed in place either. There are two blocks, and a save goes into the one that is not the newest whole
+; one. So wherever the supply falls, the newest whole save is still there.
 
 ; ---- The memory ----
-; From 0x2000 on: working memory, lost when the supply falls. From 0x3000 on: the saved block, which keeps its bytes.
+; From 0x2000 on: working memory, lost when the supply falls. From 0x3000 on: the two saved blocks, which keep their bytes.
 
 ; The mailbox. A question is a number in mail_request; the answer is there when that is 0 again.
         .equ    mailbox,        0x2000
-        .equ    mail_request,   mailbox         ; 1 picture, 2 draft, 3 hang, 4 status
+        .equ    mail_request,   mailbox         ; 1 picture, 2 draft, 3 hang, 4 status, 5 set the time
         .equ    mail_answer,    mailbox+1       ; 0 done, 1 out of date, 2 no such room, 3 not understood
         .equ    mail_slot,      mailbox+2       ; draft: the place in the list; hang: how many places it has
-        .equ    mail_season,    mailbox+3       ; hang and status: the number of the list
+        .equ    mail_season,    mailbox+3       ; hang and status: the number of the list; 0 is that of no list
         .equ    mail_entry,     mailbox+4       ; an entry, as in the list
         .equ    mail_room,      mail_entry
-        .equ    mail_until,     mail_entry+2    ; status: the time
+        .equ    mail_until,     mail_entry+2    ; status and set: the time
 
 ; Two copies of the time in minutes, four bytes each, and the address of the one that counts.
         .equ    time_in_use,    0x2010
@@ -39,22 +42,30 @@
         .equ    most_entries,   8
         .equ    list_size,      entries+most_entries*entry_size
 
+; Where the next save goes, and its number: 0 to 255, and then 0 again.
+        .equ    next_block,     0x2030
+        .equ    next_number,    0x2032
+
         .equ    stack,          0x3000          ; it grows downwards
 
-; The saved block: a list, a time, the sum of all their words, and a mark that says whether they are whole.
-        .equ    saved,          0x3000
-        .equ    saved_time,     saved+list_size
-        .equ    saved_sum,      saved_time+4
-        .equ    saved_mark,     saved_sum+2
-        .equ    saved_end,      saved_mark+2
+; A saved block: its number, a list, a time, the sum of all their words, and a mark that says whether they are whole.
+        .equ    number,         0               ; places within a block
+        .equ    saved_list,     number+2
+        .equ    saved_time,     saved_list+list_size
+        .equ    sum,            saved_time+4
+        .equ    mark,           sum+2
+        .equ    block_size,     mark+2
         .equ    whole,          0xA55A
+        .equ    block_one,      0x3000
+        .equ    block_two,      block_one+block_size
+        .equ    blocks_end,     block_two+block_size
 
         .text
         .org    0xC000
 
 ; What the world outside has to know, at the first address of the program.
         .word   mailbox                         ; the first address that the program writes
-        .word   saved, saved_end                ; the second is past the last address that it writes
+        .word   block_one, blocks_end           ; the second is past the last address that it writes
         .word   list_is_safe                    ; where the processor stops after a power warning
 
 ; ---- Switching on ----
@@ -64,25 +75,49 @@ start:  lds     #stack
         movw    #time_one, time_in_use
         clr     mail_request
 
-; The saved block is taken only if it is marked whole and its sum is right.
-        ldd     saved_mark
-        cpd     #whole
-        bne     empty
-        bsr     sum_of_saved
-        cpd     saved_sum
-        bne     empty
-        ldx     #saved
+; The newest whole block is taken, and the next save goes into the other one. Of two that are whole the numbers differ by one, and
+; the difference as a signed byte says which is the newer, also where the numbers have gone round.
+        ldx     #block_two
+        bsr     is_whole
+        bne     two_is_not
+        ldx     #block_one
+        bsr     is_whole
+        bne     take_two
+        ldab    block_two+number+1
+        subb    block_one+number+1
+        bpl     take_two
+take_one:
+        ldx     #block_one
+        ldy     #block_two
+        bra     take
+two_is_not:
+        ldx     #block_one
+        bsr     is_whole
+        beq     take_one
+        bra     empty
+take_two:
+        ldx     #block_two
+        ldy     #block_one
+take:   sty     next_block
+        ldd     2,x+                            ; the number; X is then at the list
+        incb
+        std     next_number
         ldy     #list_one
-        bsr     copy_list
-        movw    saved_time, time_one
-        movw    saved_time+2, time_one+2
+        bsr     copy_list                       ; X is then at the time
+        movw    0,x, time_one
+        movw    2,x, time_one+2
         bra     ready
 
-; Without a saved block the sign begins with no rooms, at minute 0.
-empty:  ldd     #0
-        std     list_one
-        std     time_one
-        std     time_one+2
+; Without a whole block the sign begins with no rooms, at minute 0. Questions 2, 3 and 5 give it a list and the time.
+empty:  movw    #block_one, next_block
+        movw    #0, next_number
+        ldx     #list_one
+        ldab    #list_size/2
+clear_word:
+        movw    #0, 2,x+
+        dbne    b,clear_word
+        movw    #0, time_one
+        movw    #0, time_one+2
 
 ready:  andcc   #0xAF                           ; X and I clear: from here on warnings and requests are taken
 rest:   wai
@@ -97,17 +132,20 @@ minute: ldx     time_in_use
         bne     add_end
         addd    #1                              ; the low word went round to 0
 add_end:
-        cpx     #time_one
-        beq     spare_is_two
-        ldx     #time_one
-        bra     put_time
-spare_is_two:
-        ldx     #time_two
-put_time:
+        bsr     find_spare_time
         std     0,x
         sty     2,x
         stx     time_in_use                     ; the one store that makes it the time
         rti
+
+; X becomes the address of the time that is not in use. D and Y stay.
+find_spare_time:
+        ldx     #time_one
+        cpx     time_in_use
+        bne     spare_found
+        ldx     #time_two
+spare_found:
+        rts
 
 ; ---- A question ----
 question:
@@ -120,6 +158,8 @@ question:
         beq     hang
         cmpb    #4
         beq     status
+        cmpb    #5
+        beq     set_time
 not_understood:
         ldaa    #3
         bra     answer
@@ -134,11 +174,12 @@ answer: staa    mail_answer
         clr     mail_request                    ; after the answer, so that 0 means that it is there
         rti
 
-; Which picture hangs in mail_room? It is out of date from the minute of its entry on.
+; Which picture hangs in mail_room? It is out of date from the minute of its entry on. Where there is no list at all, every room is
+; out of date: so whoever asks learns that a list is needed.
 picture:
         ldx     list_in_use
         ldab    count,x
-        beq     no_such_room
+        beq     out_of_date
         leax    entries,x
         ldaa    mail_room
 search: cmpa    room,x
@@ -191,6 +232,14 @@ status: ldx     list_in_use
         movw    2,x, mail_until+2
         bra     done
 
+; The time becomes mail_until. As with the minute, it is written into the spare copy.
+set_time:
+        bsr     find_spare_time
+        movw    mail_until, 0,x
+        movw    mail_until+2, 2,x
+        stx     time_in_use                     ; the one store that makes it the time
+        bra     done
+
 ; X becomes the address of the list that is not in use. D stays.
 find_draft:
         ldx     #list_one
@@ -202,18 +251,21 @@ draft_found:
 
 ; ---- The power warning ----
 ; It can come between any two instructions above. The mark is taken off first and put back last, so that a block that is cut short
-; is never taken for a whole one.
+; is never taken for a whole one; the other block, which has the save before this one, is not touched.
 warning:
-        movw    #0, saved_mark
+        ldy     next_block
+        ldd     #0
+        std     mark,y
+        movw    next_number, 2,y+               ; Y is then at the block's list
         ldx     list_in_use
-        ldy     #saved
-        bsr     copy_list
+        bsr     copy_list                       ; Y is then at its time
         ldx     time_in_use
-        movw    0,x, saved_time
-        movw    2,x, saved_time+2
-        bsr     sum_of_saved
-        std     saved_sum
-        movw    #whole, saved_mark
+        movw    0,x, 0,y
+        movw    2,x, 2,y
+        ldx     next_block
+        bsr     sum_of_block                    ; X is then at its sum
+        std     0,x
+        movw    #whole, 2,x
 
 ; Nothing is left to do: the supply may fall. There is no way back, for a second warning would write over what is safe; a supply
 ; that recovers resets the processor.
@@ -221,7 +273,7 @@ list_is_safe:
         bgnd
         bra     list_is_safe
 
-; Copies a list from X to Y.
+; Copies a list from X to Y, and leaves both behind it.
 copy_list:
         ldab    #list_size/2
 copy_word:
@@ -229,14 +281,22 @@ copy_word:
         dbne    b,copy_word
         rts
 
-; D becomes the sum of the words of the saved list and time.
-sum_of_saved:
-        ldx     #saved
+; Z is set where the block at X is marked whole and its sum is right.
+is_whole:
+        ldd     mark,x
+        cpd     #whole
+        bne     judged
+        bsr     sum_of_block
+        cpd     0,x
+judged: rts
+
+; D becomes the sum of the words of the block at X: number, list and time. X becomes the address behind them, that of the sum kept.
+sum_of_block:
+        ldy     #sum/2
         ldd     #0
 add_word:
         addd    2,x+
-        cpx     #saved_sum
-        bne     add_word
+        dbne    y,add_word
         rts
 
 ; A request that this sign does not know stops it here.

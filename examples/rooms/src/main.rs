@@ -1,12 +1,15 @@
 //! A museum's rehang, replayed: first with the old design's two clocks, then with the sign's own firmware in both tiers of the
-//! guide, and at last with a power warning at every cycle of the rehang. It prints a short account, the same each time.
+//! guide, then with a power warning at every cycle of the rehang, and at last with the supply cut at every cycle after a warning. It
+//! prints a short account, the same each time.
 #![cfg_attr(feature = "plain_start", no_main)]
 
 mod account;
 mod museum;
 mod old;
 mod power;
+mod processor;
 mod sign;
+mod supply;
 mod tiers;
 
 use std::io;

@@ -1,12 +1,16 @@
 //! What hangs where, by the museum's own book.
 
-use crate::sign::{Answer, Entry};
+use crate::processor::Processor;
+use crate::sign::{Answer, Entry, Sign, CALM, NO_LIST};
 
 /// The minutes of a day.
 pub const DAY: u32 = 1440;
 
 /// The minute of the rehang. Minute 0 is nine o'clock in the morning, and so is this one, a day later.
 pub const REHANG: u32 = DAY;
+
+/// Counting to this minute carries into the high word of the time.
+pub const CARRY: u32 = 65_536;
 
 /// A list of rooms. Each season has its number.
 pub struct List {
@@ -43,7 +47,35 @@ pub fn list_at(minute: u32) -> &'static List {
 /// What a list says of a room.
 pub fn answer_by(list: &List, room: u8) -> Answer {
     let found = list.entries.iter().find(|entry| entry.room == room);
-    found.map_or(Answer::NoSuchRoom, |entry| Answer::Picture(entry.picture))
+    found.map_or(Answer::NoSuchRoom, |&entry| Answer::Hangs(entry))
+}
+
+/// All that can be learnt from a sign: the number of its list, its minute, and what it says of each room.
+#[derive(Clone, Copy, PartialEq, Eq)]
+pub struct Told {
+    pub season: u8,
+    pub minute: u32,
+    pub answers: [Answer; ROOMS.len()],
+}
+
+impl Told {
+    /// What this sign tells.
+    pub fn by<P: Processor>(sign: &mut Sign<P>) -> Told {
+        let (season, minute) = sign.status().expect(CALM);
+        let answers = ROOMS.map(|room| sign.picture(room).expect(CALM));
+        Told { season, minute, answers }
+    }
+
+    /// What a sign has to tell that knows this list, which is in date, and this minute.
+    pub fn by_book(list: &List, minute: u32) -> Told {
+        let answers = ROOMS.map(|room| answer_by(list, room));
+        Told { season: list.season, minute, answers }
+    }
+
+    /// What a sign has to tell that has come up empty.
+    pub fn nothing() -> Told {
+        Told { season: NO_LIST, minute: 0, answers: [Answer::OutOfDate; ROOMS.len()] }
+    }
 }
 
 /// Whether the museum is open, and the guides awake: nine hours of each day.

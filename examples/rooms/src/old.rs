@@ -1,10 +1,10 @@
 //! The old design: each tier decides for itself when its list is out of date, by a clock of its own.
 
 use crate::museum::{answer_by, is_open, list_at, List, REHANG, SPRING};
-use crate::sign::Answer;
+use crate::sign::{Answer, CYCLES_A_MINUTE};
 
-/// The cycles that the guide's processor counts in a minute, at 8 MHz.
-const CYCLES: u64 = 480_000_000;
+/// The cycles that the guide's processor counts in a minute: its clock is as quick as the sign's.
+const CYCLES: u64 = CYCLES_A_MINUTE as u64;
 
 /// A tier of the old design. What `expires` counts is the tier's own business.
 struct OldTier {

@@ -1,7 +1,9 @@
 //! The power warning, tried at every cycle of a piece of the firmware's work.
 
-use crate::museum::{answer_by, List, REHANG, ROOMS, SPRING, SUMMER};
+use crate::museum::{list_at, Told, REHANG, ROOMS, SUMMER};
+use crate::processor::Processor;
 use crate::sign::{Sign, Warned, CALM};
+use crate::tiers::bring_up_to_date;
 
 /// The handler has to be entered by so many cycles after the warning: that is the machine's promise.
 pub const DEADLINE: u32 = 21;
@@ -20,11 +22,12 @@ pub struct Tally {
     pub safe_after: u32,
 }
 
-/// Warns at every cycle of some work, which starts each time from the same sign.
-fn at_every_cycle(
-    start: &Sign,
-    work: impl Fn(&mut Sign) -> Result<(), Warned>,
-    recovers: impl Fn(&mut Sign) -> bool,
+/// Warns at every cycle of some work, which starts each time from the same sign. With the power back, the sign is given what it
+/// missed up to `minute`; then it has to tell what the museum's book says.
+fn at_every_cycle<P: Processor>(
+    start: &Sign<P>,
+    minute: u32,
+    work: impl Fn(&mut Sign<P>) -> Result<(), Warned>,
 ) -> Tally {
     let mut finished = start.clone();
     work(&mut finished).expect(CALM);
@@ -38,7 +41,7 @@ fn at_every_cycle(
         tally.before += u32::from(sign.saved() == before);
         tally.after += u32::from(sign.saved() == after);
         tally.mixed += u32::from(sign.saved() != before && sign.saved() != after);
-        tally.recovered += u32::from(recovers(&mut sign.after_power_cut()));
+        tally.recovered += u32::from(recovers(&mut sign.after_power_cut(), minute));
         tally.late += u32::from(warned.entered_after > DEADLINE);
         tally.entered_after = tally.entered_after.max(warned.entered_after);
         tally.safe_after = tally.safe_after.max(warned.safe_after);
@@ -46,35 +49,36 @@ fn at_every_cycle(
     tally
 }
 
-/// What a sign saves if it is warned while it has nothing to do.
-fn saved_at_rest(sign: &Sign) -> Vec<u8> {
+/// What a sign has saved if it is warned while it has nothing to do.
+fn saved_at_rest<P: Processor>(sign: &Sign<P>) -> Vec<u8> {
+    save(sign).saved().to_vec()
+}
+
+/// The sign once it has been warned, while it had nothing to do, and its list is safe.
+pub fn save<P: Processor>(sign: &Sign<P>) -> Sign<P> {
     let mut sign = sign.clone();
     sign.warn_at(sign.clock());
     sign.minute().expect_err("the warning was given");
-    sign.saved().to_vec()
+    sign
 }
 
-/// The warning during the rehang. The guide repeats a rehang that the sign does not know of; then nothing may be missing.
-pub fn during_rehang(start: &Sign) -> Tally {
-    let rehang = |sign: &mut Sign| sign.rehang(&SUMMER);
-    at_every_cycle(start, rehang, |sign| {
-        let (season, minute) = sign.status().expect(CALM);
-        if season == SPRING.season {
-            sign.rehang(&SUMMER).expect(CALM);
-        }
-        minute == REHANG && shows(sign, &SUMMER)
-    })
+/// Whether a sign tells what the museum's book says, once it has been given what it missed.
+pub fn recovers<P: Processor>(sign: &mut Sign<P>, minute: u32) -> bool {
+    bring_up_to_date(sign, minute, ROOMS[0]);
+    Told::by(sign) == Told::by_book(list_at(minute), minute)
 }
 
-/// The warning while one more minute is counted, to `minute`. Once the sign has caught up it has to know that minute.
-pub fn during_minute(start: &Sign, minute: u32) -> Tally {
-    at_every_cycle(start, Sign::minute, |sign| {
-        sign.catch_up(minute).expect(CALM);
-        sign.status().expect(CALM).1 == minute
-    })
+/// The warning during the rehang.
+pub fn during_rehang<P: Processor>(start: &Sign<P>) -> Tally {
+    at_every_cycle(start, REHANG, |sign| sign.rehang(&SUMMER))
 }
 
-/// Whether a sign answers by this list for every room.
-fn shows(sign: &mut Sign, list: &List) -> bool {
-    ROOMS.iter().all(|&room| sign.picture(room).expect(CALM) == answer_by(list, room))
+/// The warning while one more minute is counted, to `minute`.
+pub fn during_minute<P: Processor>(start: &Sign<P>, minute: u32) -> Tally {
+    at_every_cycle(start, minute, Sign::minute)
+}
+
+/// The warning while the time is set to `minute`.
+pub fn during_set_time<P: Processor>(start: &Sign<P>, minute: u32) -> Tally {
+    at_every_cycle(start, minute, |sign| sign.set_time(minute))
 }
