@@ -36,8 +36,7 @@ enum Failure {
     Writing(io::Error),
 }
 
-/// Most commands only write; `Reading` is made by name where something is read.
-
+/// What is read says `Reading` itself; all else that can fail is writing.
 impl From<io::Error> for Failure {
     fn from(error: io::Error) -> Failure {
         Failure::Writing(error)
@@ -58,22 +57,20 @@ fn main() -> ExitCode {
         ["bench"] => run_bench(),
         words => Err(Failure::Usage(misread(words))),
     };
-    match result {
-        Ok(()) | Err(Failure::Reported) => {}
+    let (message, status) = match result {
+        Ok(()) => return ExitCode::SUCCESS,
         // Who reads has read enough.
-        Err(Failure::Writing(ref error)) if error.kind() == io::ErrorKind::BrokenPipe => {
+        Err(Failure::Writing(error)) if error.kind() == io::ErrorKind::BrokenPipe => {
             return ExitCode::SUCCESS
         }
-        Err(Failure::Message(ref text)) => say(text),
-        Err(Failure::Usage(ref text)) => say(&format!("{}\n\n{}", text, HELP.trim_end())),
-        Err(Failure::Reading(ref error)) => say(&format!("cannot read the input: {}", error)),
-        Err(Failure::Writing(ref error)) => say(&format!("cannot write the output: {}", error)),
-    }
-    match result {
-        Ok(()) => ExitCode::SUCCESS,
-        Err(Failure::Usage(_)) => ExitCode::from(2),
-        Err(_) => ExitCode::FAILURE,
-    }
+        Err(Failure::Reported) => return ExitCode::FAILURE,
+        Err(Failure::Message(text)) => (text, 1),
+        Err(Failure::Reading(error)) => (format!("cannot read the input: {}", error), 1),
+        Err(Failure::Writing(error)) => (format!("cannot write the output: {}", error), 1),
+        Err(Failure::Usage(text)) => (format!("{}\n\n{}", text, HELP.trim_end()), 2),
+    };
+    say(&message);
+    ExitCode::from(status)
 }
 
 /// A message on standard error. Where that cannot be written either, the status remains.
