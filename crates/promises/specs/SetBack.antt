@@ -1,5 +1,5 @@
--- The clock may be set back. It ends at 4,000,000,000, and a schedule has at most 64 records (docs/MACHINE.md, "The limits"): a replay that goes on longer
--- is runs whose clocks begin anew. Each theorem is proved under the same name in proofs/SetBack.antt.
+-- The clock may be set back. It ends at 4,000,000,000, and a schedule has at most 64 records (docs/MACHINE.md, "The limits"): a replay
+-- that goes on longer is runs whose clocks begin anew. Each theorem is proved under the same name in proofs/SetBack.antt.
 use Prim.Native.Nat.{ℕ, _+_, _-_, _≤_}
 use mathlib.Core.Path.{_≡_}
 use mathlib.Core.Bool.{true}
