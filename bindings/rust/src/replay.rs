@@ -21,8 +21,9 @@ const MOST_COMING: usize = doors::RECORDS - 1;
 /// A single [`Machine::run`] takes 64 records and 100,000,000 cycles, and its clock ends at 4,000,000,000, which is 500 seconds of a
 /// sign at 8 MHz. A replay leaves what one run without these limits would leave: it splits the time into runs, sets the machine's clock
 /// back to 0 before each, with the records to come less by the same amount, and restates the line byte in force as a record at cycle
-/// 0. The theorems `TheClockMayBeSetBack` and `RunsGoOn` of the proved machine justify this. The splitting itself is Rust: it is tested
-/// beside the second emulator, which runs in one piece, and it is not proved.
+/// 0. That this comes to the same is proved of the machine, by `TheClockMayBeSetBack` and what follows it in
+/// `crates/promises/specs/SetBack.antt` and by `RunsGoOn`. The splitting itself is Rust: it is tested beside the second emulator, which
+/// runs in one piece, and it is not proved.
 ///
 /// ```rust
 /// use cpu12::{lines, LongRecord, Machine, Replay, State};
