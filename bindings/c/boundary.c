@@ -1,4 +1,7 @@
-/* The machine from C: every reply, and every length of memory near 0 and near 65,536. Ends with status 0 and one line. */
+/*
+ * The machine from C: every reply, every request line, every reserved byte, and every length of memory near 0 and near 65,536. Ends
+ * with status 0 and one line. It is C99 and C++ alike.
+ */
 #include "cpu12.h"
 
 #include <stdio.h>
@@ -16,12 +19,15 @@ static void expect(const char *what, uint32_t expected, uint32_t found)
     }
 }
 
-static uint32_t number_at(const uint8_t *bytes, int count)
+/* A step and a run without requests, over the whole record and the whole memory. */
+static uint32_t step(uint8_t *state, uint8_t line)
 {
-    uint32_t number = 0;
-    for (int i = 0; i < count; i++)
-        number = number << 8 | bytes[i];
-    return number;
+    return cpu12_step(state, CPU12_STATE, memory, CPU12_MEMORY, line);
+}
+
+static uint32_t run(uint8_t *state, uint32_t budget)
+{
+    return cpu12_run(state, CPU12_STATE, memory, CPU12_MEMORY, NULL, 0, budget);
 }
 
 /* The code at $4000, and a state record after a reset. */
@@ -30,36 +36,116 @@ static void begin(uint8_t *state, const uint8_t *code, size_t length)
     memset(memory, 0, sizeof memory);
     memcpy(memory + 0x4000, code, length);
     memory[0xFFFE] = 0x40;
+    memset(state, 0xEE, CPU12_STATE);
     expect("reset", CPU12_DONE, cpu12_reset(state, CPU12_STATE, memory, CPU12_MEMORY));
-    expect("PC after a reset", 0x4000, number_at(state + CPU12_AT_PC, 2));
-    expect("CCR after a reset", 0xD0, state[CPU12_AT_CCR]);
+    expect("PC after a reset", 0x4000, cpu12_get_pc(state));
+    expect("CCR after a reset", 0xD0, cpu12_get_ccr(state));
+    for (size_t i = CPU12_AT_RESERVED; i < CPU12_STATE; i++)
+        expect("reserved byte after a reset", 0, state[i]);
 }
 
 static void replies(void)
 {
     const uint8_t loads[] = {0x86, 0x7F, 0x8B, 0x01, 0x00}, reserved[] = {0xB7, 0x35};
-    const uint8_t twice[] = {0, 0, 0, 5, 0, 0, 0, 0, 5, 0};
-    uint8_t state[CPU12_STATE];
+    uint8_t state[CPU12_STATE], twice[2 * CPU12_RECORD];
 
+    cpu12_set_record(twice, 0, 5, 0);
+    cpu12_set_record(twice, 1, 5, 0);
     begin(state, loads, sizeof loads);
-    expect("LDAA", CPU12_DONE, cpu12_step(state, CPU12_STATE, memory, CPU12_MEMORY, 0));
-    expect("A after LDAA", 0x7F, state[CPU12_AT_A]);
-    expect("cycles of LDAA", 1, number_at(state + CPU12_AT_CYCLES, 4));
+    expect("LDAA", CPU12_DONE, step(state, 0));
+    expect("A after LDAA", 0x7F, cpu12_get_a(state));
+    expect("cycles of LDAA", 1, cpu12_get_cycles(state));
     expect("equal cycle numbers", CPU12_WRONG_SCHEDULE,
            cpu12_run(state, CPU12_STATE, memory, CPU12_MEMORY, twice, sizeof twice, 0));
-    expect("budget past its limit", CPU12_PAST_LIMIT,
-           cpu12_run(state, CPU12_STATE, memory, CPU12_MEMORY, twice, 0, 100000001));
+    expect("budget past its limit", CPU12_PAST_LIMIT, run(state, 100000001));
     expect("part of a record", CPU12_WRONG_PACKING,
-           cpu12_run(state, CPU12_STATE, memory, CPU12_MEMORY, twice, 4, 0));
-    expect("run to BGND", CPU12_STOPPED, cpu12_run(state, CPU12_STATE, memory, CPU12_MEMORY, twice, 5, 1000));
-    expect("clock after the run", 2, number_at(state + CPU12_AT_CLOCK, 4));
-    expect("CCR after the run", 0xFA, state[CPU12_AT_CCR]);
-    expect("short record", CPU12_WRONG_LENGTH, cpu12_step(state, CPU12_STATE - 1, memory, CPU12_MEMORY, 0));
-    state[CPU12_AT_WAITING] = 2;
-    expect("waiting flag", CPU12_WRONG_FLAG, cpu12_step(state, CPU12_STATE, memory, CPU12_MEMORY, 0));
+           cpu12_run(state, CPU12_STATE, memory, CPU12_MEMORY, twice, CPU12_RECORD - 1, 0));
+    expect("run to BGND", CPU12_STOPPED,
+           cpu12_run(state, CPU12_STATE, memory, CPU12_MEMORY, twice, CPU12_RECORD, 1000));
+    expect("clock after the run", 2, cpu12_get_clock(state));
+    expect("CCR after the run", 0xFA, cpu12_get_ccr(state));
 
     begin(state, reserved, sizeof reserved);
-    expect("TFR with code 3", CPU12_RESERVED_POSTBYTE, cpu12_step(state, CPU12_STATE, memory, CPU12_MEMORY, 0));
+    expect("TFR with code 3", CPU12_RESERVED_POSTBYTE, step(state, 0));
+}
+
+/* The door's own refusals, in their order: each record is wrong in what comes later too. */
+static void refusals(void)
+{
+    const uint8_t nops[] = {0xA7, 0xA7};
+    uint8_t state[CPU12_STATE], lent[CPU12_STATE], part[1] = {0};
+
+    begin(state, nops, sizeof nops);
+    for (size_t i = CPU12_AT_RESERVED; i < CPU12_STATE; i++) {
+        state[i] = (uint8_t)i;
+        memcpy(lent, state, sizeof state);
+        expect("reserved byte", CPU12_WRONG_RESERVED, step(state, 0));
+        expect("reserved byte before the packing", CPU12_WRONG_RESERVED,
+               cpu12_run(state, CPU12_STATE, memory, 0, part, sizeof part, 1));
+        state[CPU12_AT_WAITING] = 2;
+        expect("waiting flag before the reserved byte", CPU12_WRONG_FLAG, step(state, 0));
+        expect("length before the waiting flag", CPU12_WRONG_LENGTH,
+               cpu12_step(state, CPU12_STATE - 1, memory, CPU12_MEMORY, 0));
+        state[CPU12_AT_WAITING] = 0;
+        expect("a record after a refusal", 0, memcmp(state, lent, sizeof state) != 0);
+        state[i] = 0;
+    }
+    expect("the record again", CPU12_DONE, step(state, 0));
+    expect("nothing lent to reset", CPU12_WRONG_LENGTH, cpu12_reset(NULL, 0, NULL, 0));
+    expect("nothing lent to step", CPU12_WRONG_LENGTH, cpu12_step(NULL, 0, NULL, 0, 0));
+    expect("nothing lent to run", CPU12_WRONG_LENGTH, cpu12_run(NULL, 0, NULL, 0, NULL, 0, 0));
+    expect("no memory", CPU12_WRONG_MEMORY, cpu12_run(state, CPU12_STATE, NULL, 0, NULL, 0, 0));
+}
+
+/* Every field is set and got at a value of its own, and none touches another. */
+static void fields(void)
+{
+    uint8_t state[CPU12_STATE] = {0};
+
+    cpu12_set_a(state, 0x12);
+    cpu12_set_b(state, 0x34);
+    cpu12_set_x(state, 0x5678);
+    cpu12_set_y(state, 0x9ABC);
+    cpu12_set_sp(state, 0xDEF0);
+    cpu12_set_pc(state, 0x1357);
+    cpu12_set_ccr(state, 0x9B);
+    cpu12_set_waiting(state, 256);
+    cpu12_set_clock(state, 0x02468ACE);
+    /* A machine that waits, with I set: one idle cycle, after which all but the clock and the cycles is as it was. */
+    memset(memory, 0, sizeof memory);
+    expect("an idle cycle", CPU12_DONE, step(state, CPU12_IRQ));
+    expect("A", 0x12, cpu12_get_a(state));
+    expect("B", 0x34, cpu12_get_b(state));
+    expect("X", 0x5678, cpu12_get_x(state));
+    expect("Y", 0x9ABC, cpu12_get_y(state));
+    expect("SP", 0xDEF0, cpu12_get_sp(state));
+    expect("PC", 0x1357, cpu12_get_pc(state));
+    expect("CCR", 0x9B, cpu12_get_ccr(state));
+    expect("waiting", 1, (uint32_t)cpu12_get_waiting(state));
+    expect("clock", 0x02468ACF, cpu12_get_clock(state));
+    expect("cycles", 1, cpu12_get_cycles(state));
+}
+
+/* Each line is entered by its vector, before those of higher bits, and held back by its mask. */
+static void requests(void)
+{
+    uint8_t state[CPU12_STATE];
+
+    for (int bit = 0; bit < 8; bit++) {
+        begin(state, (const uint8_t *)"\xA7", 1);
+        cpu12_set_word(memory + CPU12_VECTOR(bit), 0x5678);
+        cpu12_set_sp(state, 0x2000);
+        cpu12_set_ccr(state, 0x80);
+        expect("an entry", CPU12_DONE, step(state, (uint8_t)(0xFF << bit)));
+        expect("PC after an entry", 0x5678, cpu12_get_pc(state));
+        expect("cycles of an entry", 9, cpu12_get_cycles(state));
+        expect("CCR after an entry", CPU12_LINE(bit) == CPU12_XIRQ ? 0xD0 : 0x90, cpu12_get_ccr(state));
+
+        begin(state, (const uint8_t *)"\xA7", 1);
+        cpu12_set_ccr(state, CPU12_LINE(bit) == CPU12_XIRQ ? 0xC0 : 0x90);
+        expect("a masked request", CPU12_DONE, step(state, (uint8_t)CPU12_LINE(bit)));
+        expect("PC after a NOP", 0x4001, cpu12_get_pc(state));
+    }
 }
 
 static void length(size_t n)
@@ -74,18 +160,22 @@ static void length(size_t n)
     expect("step", expected, cpu12_step(state, CPU12_STATE, memory, n, 0));
     if (expected != CPU12_DONE)
         expect("state after a refusal", 0, memcmp(state, lent, sizeof state) != 0);
-    expect("run", expected, cpu12_run(state, CPU12_STATE, memory, n, lent, 0, 1));
+    expect("run", expected, cpu12_run(state, CPU12_STATE, memory, n, NULL, 0, 1));
     expect("reset", expected, cpu12_reset(state, CPU12_STATE, memory, n));
     expect("bytes", 0, memcmp(memory, before, sizeof memory) != 0);
 }
 
 int main(void)
 {
+    expect("version", CPU12_VERSION, cpu12_version());
     replies();
+    refusals();
+    fields();
+    requests();
     for (size_t n = 0; n <= 3; n++)
         length(n);
     for (size_t n = CPU12_MEMORY - 3; n <= CPU12_MEMORY + 3; n++)
         length(n);
-    puts("C: every reply and the wrong lengths");
+    puts("C: every reply, every request line and the wrong lengths");
     return 0;
 }

@@ -416,7 +416,7 @@ fn reserved_transfer_postbytes() {
     }
 }
 
-/// Which of the five forms a postbyte has, by the bit patterns of document 01.
+/// Which of the five forms a postbyte has, by the bit patterns of docs/MACHINE.md, "Addresses".
 fn form_of(postbyte: u8) -> usize {
     if postbyte & 0xE0 != 0xE0 {
         return 0;

@@ -1,16 +1,27 @@
-//! The functions of the static library, over slices. Each gives the reply as a number; docs/GUIDE-ABI.md lists them.
+//! The functions of the static library as they are, over slices: each gives the number of its reply.
+//!
+//! `docs/GUIDE-ABI.md` in the repository has the places of a state record and the order of the tests. [`Machine`](crate::Machine) is
+//! the same machine with names for both.
+
+/// The version of the boundary that this crate was written for. [`version`] gives that of the library.
+pub const VERSION: u32 = 2;
 
 /// The bytes of a state record.
-pub const STATE: usize = 20;
+pub const STATE: usize = 48;
 
-/// The bytes of a packed record of a schedule.
+/// The bytes of a packed record of a schedule: the cycle number in four, highest byte first, and the line byte.
 pub const RECORD: usize = 5;
+
+/// The most records that a schedule may have.
+pub const RECORDS: usize = 64;
 
 /// The bytes of the memory that the machine accepts.
 pub const MEMORY: usize = 65_536;
 
 mod boundary {
     extern "C" {
+        pub fn cpu12_version() -> u32;
+
         pub fn cpu12_reset(
             state: *mut u8,
             state_length: usize,
@@ -38,13 +49,20 @@ mod boundary {
     }
 }
 
-/// Reset: the state after it goes into the record.
+/// The version of the boundary that the linked library has. A program that links a library from elsewhere compares it with
+/// [`VERSION`] once, at its start.
+pub fn version() -> u32 {
+    // It takes nothing and touches nothing.
+    unsafe { boundary::cpu12_version() }
+}
+
+/// Reset: the state after it goes into the record. Gives 100, 1 or 0.
 pub fn reset(state: &mut [u8], memory: &[u8]) -> u32 {
     // Each pointer comes with the length of its slice, and a slice lent for writing overlaps no other.
     unsafe { boundary::cpu12_reset(state.as_mut_ptr(), state.len(), memory.as_ptr(), memory.len()) }
 }
 
-/// One step under a line byte.
+/// One step under a line byte. Gives 100, 101, 103, 1, 3, 4, 5 or 0, tested in this order.
 pub fn step(state: &mut [u8], memory: &mut [u8], line: u8) -> u32 {
     // As in `reset`.
     unsafe {
@@ -58,7 +76,7 @@ pub fn step(state: &mut [u8], memory: &mut [u8], line: u8) -> u32 {
     }
 }
 
-/// A run with a packed schedule and a budget.
+/// A run with a packed schedule and a budget. Gives 100, 101, 103, 102, 1, 2 or 3, tested in this order, or 4, 5 or 0.
 pub fn run(state: &mut [u8], memory: &mut [u8], schedule: &[u8], budget: u32) -> u32 {
     // As in `reset`.
     unsafe {

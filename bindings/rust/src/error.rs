@@ -1,6 +1,7 @@
-use std::fmt;
+use core::fmt;
 
-/// Every reply but 0.
+/// Every reply but 0. It will grow as the machine does.
+#[non_exhaustive]
 #[derive(Clone, Copy, Debug, PartialEq, Eq)]
 pub enum Error {
     /// 1: the memory is not 65,536 bytes long.
@@ -9,20 +10,27 @@ pub enum Error {
     WrongSchedule,
     /// 3: the clock or the budget is past its limit.
     PastLimit,
-    /// 4: the opcode is one that stops the machine.
+    /// 4: the opcode is one that stops the machine: `00` BGND, `01` MEM, `0A` RTC, `3C` wavr, `4A` and `4B` CALL, `18 3A` REV,
+    /// `18 3B` REVW, `18 3C` WAV, `18 3E` STOP. The state is that before it.
     Stopped,
-    /// 5: a postbyte of the instruction is reserved.
+    /// 5: a postbyte of the instruction is reserved: a TFR or EXG with register code 3, a loop with kind 6 or 7 or register code 2
+    /// or 3, or an indexed postbyte whose address form the instruction does not have. The state is that before it.
     ReservedPostbyte,
-    /// 100: the state record has another length. A `Machine` never gives it.
+    /// 100: the state record has another length.
     WrongLength,
-    /// 101: the byte of the waiting flag is neither 0 nor 1. A `Machine` never gives it.
+    /// 101: the byte of the waiting flag is neither 0 nor 1.
     WrongFlag,
-    /// 102: the schedule's bytes are not a whole number of records. A `Machine` never gives it.
+    /// 102: the schedule's bytes are not a whole number of records. Only [`doors::run`](crate::doors::run) can come to it.
     WrongPacking,
+    /// 103: a reserved byte of the state record is not 0.
+    WrongReserved,
+    /// A number that this crate does not know, as a later library might give it.
+    Unknown(u32),
 }
 
 impl Error {
-    const ALL: [Error; 8] = [
+    /// Those that have a name.
+    const NAMED: [Error; 9] = [
         Error::WrongMemory,
         Error::WrongSchedule,
         Error::PastLimit,
@@ -31,6 +39,7 @@ impl Error {
         Error::WrongLength,
         Error::WrongFlag,
         Error::WrongPacking,
+        Error::WrongReserved,
     ];
 
     /// The number of the reply.
@@ -44,16 +53,18 @@ impl Error {
             Error::WrongLength => 100,
             Error::WrongFlag => 101,
             Error::WrongPacking => 102,
+            Error::WrongReserved => 103,
+            Error::Unknown(number) => number,
         }
     }
 
-    /// The error that a reply's number stands for; 0 is none. The library has no other number: that is in its contracts.
+    /// The error that a reply's number stands for; 0 is none, and a number without a name is [`Error::Unknown`].
     pub fn check(number: u32) -> Result<(), Error> {
         if number == 0 {
             return Ok(());
         }
-        let found = Error::ALL.iter().find(|error| error.number() == number);
-        Err(*found.expect("a number that is no reply"))
+        let named = Error::NAMED.iter().find(|error| error.number() == number);
+        Err(named.copied().unwrap_or(Error::Unknown(number)))
     }
 }
 
@@ -62,16 +73,19 @@ impl fmt::Display for Error {
         f.write_str(match self {
             Error::WrongMemory => "the memory is not 65,536 bytes long",
             Error::WrongSchedule => {
-                "the schedule has over 64 records, or its cycle numbers do not rise"
+                "the schedule has too many records, or its cycle numbers do not rise"
             }
             Error::PastLimit => "the clock or the budget is past its limit",
             Error::Stopped => "the opcode is one that stops the machine",
             Error::ReservedPostbyte => "a postbyte of the instruction is reserved",
-            Error::WrongLength => "the state record is not 20 bytes long",
+            Error::WrongLength => "the state record has another length",
             Error::WrongFlag => "the byte of the waiting flag is neither 0 nor 1",
             Error::WrongPacking => "the schedule's bytes are not a whole number of records",
+            Error::WrongReserved => "a reserved byte of the state record is not 0",
+            Error::Unknown(number) => return write!(f, "the unknown reply {}", number),
         })
     }
 }
 
+#[cfg(feature = "std")]
 impl std::error::Error for Error {}

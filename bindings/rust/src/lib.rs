@@ -1,62 +1,29 @@
 //! The proved CPU12 machine, for Rust.
 //!
-//! [`Machine`] is the machine's state; the memory is the caller's, 65,536 bytes that are lent to each operation. [`doors`] has the
-//! functions of the static library as they are, over slices. Both are safe: Rust sees to it that lent slices do not overlap and have
-//! their lengths, and everything else is tested behind the boundary.
+//! [`Machine`] is the machine's state; the memory is the caller's, 65,536 bytes that are lent to each operation. [`Replay`] is a machine
+//! with 64-bit time, a schedule of any length and budgets of any size. [`lines`] says what a line byte means. [`doors`] has the
+//! functions of the static library as they are, over slices. All of it is safe: Rust sees to it that lent slices do not overlap and
+//! have their lengths, everything else is tested behind the boundary, and no function panics.
+//!
+//! The crate links the static library `libcpu12.a`, which `rt staticlib cpu12` writes. It is for x86-64, and found where that command
+//! writes it, or in the folder that `CPU12_LIBRARY` names. The crate allocates nothing and needs `core` alone; its feature `std`, on by
+//! default, makes [`Error`] a `std::error::Error`.
+//!
+//! What is proved of the machine, and what a state record looks like, is in the repository: `docs/GUIDE-ABI.md` for this boundary,
+//! `docs/MACHINE.md` for the machine's rules.
+#![cfg_attr(not(feature = "std"), no_std)]
 #![deny(missing_docs)]
 
 pub mod doors;
 mod error;
+pub mod lines;
+mod machine;
+mod replay;
+mod schedule;
 mod state;
 
 pub use error::Error;
-pub use state::{Record, State};
-
-/// A machine: its registers, its waiting flag and its clock.
-#[derive(Clone, Copy, Debug, PartialEq, Eq)]
-pub struct Machine {
-    record: [u8; doors::STATE],
-}
-
-impl Machine {
-    /// The machine with this state.
-    pub fn new(state: State) -> Machine {
-        Machine { record: state.to_record() }
-    }
-
-    /// The state.
-    pub fn state(&self) -> State {
-        State::of_record(&self.record)
-    }
-
-    /// The cycles that the last operation used.
-    pub fn cycles(&self) -> u32 {
-        let r = &self.record;
-        u32::from_be_bytes([r[16], r[17], r[18], r[19]])
-    }
-
-    /// Reset: PC is read from the reset vector, S, X and I are set, all else is cleared. A memory of another length gives
-    /// [`Error::WrongMemory`], and PC 0.
-    pub fn reset(&mut self, memory: &[u8]) -> Result<(), Error> {
-        Error::check(doors::reset(&mut self.record, memory))
-    }
-
-    /// One step under a line byte, and the cycles that it used.
-    pub fn step(&mut self, memory: &mut [u8], line: u8) -> Result<u32, Error> {
-        Error::check(doors::step(&mut self.record, memory, line))?;
-        Ok(self.cycles())
-    }
-
-    /// Steps until the next one costs more than is left of the budget, and the cycles that they used. A machine that stops before that
-    /// gives [`Error::Stopped`] or [`Error::ReservedPostbyte`]; then [`Machine::cycles`] has the cycles used.
-    pub fn run(
-        &mut self,
-        memory: &mut [u8],
-        schedule: &[Record],
-        budget: u32,
-    ) -> Result<u32, Error> {
-        let packed = Record::pack(schedule);
-        Error::check(doors::run(&mut self.record, memory, &packed, budget))?;
-        Ok(self.cycles())
-    }
-}
+pub use machine::Machine;
+pub use replay::{LongRecord, Replay};
+pub use schedule::Record;
+pub use state::State;

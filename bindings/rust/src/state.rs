@@ -1,6 +1,27 @@
 use crate::doors;
+use crate::Error;
 
-/// The machine's state, register by register.
+/// The places in a state record, as `docs/GUIDE-ABI.md` has them.
+mod at {
+    pub const A: usize = 0;
+    pub const B: usize = 1;
+    pub const X: usize = 2;
+    pub const Y: usize = 4;
+    pub const SP: usize = 6;
+    pub const PC: usize = 8;
+    pub const CCR: usize = 10;
+    pub const WAITING: usize = 11;
+    pub const CLOCK: usize = 12;
+    pub const CYCLES: usize = 16;
+    pub const RESERVED: usize = 20;
+}
+
+/// A state record whose tests are done: its waiting flag is 0 or 1, and its reserved bytes are 0.
+pub(crate) type StateRecord = [u8; doors::STATE];
+
+/// The machine's state, register by register. It will grow as the machine does: begin with [`State::default`], in which all is 0, or
+/// with the state of a machine, and set the fields.
+#[non_exhaustive]
 #[derive(Clone, Copy, Debug, Default, PartialEq, Eq)]
 pub struct State {
     /// Accumulator A.
@@ -23,56 +44,64 @@ pub struct State {
     pub clock: u32,
 }
 
+fn word(record: &StateRecord, at: usize) -> u16 {
+    u16::from_be_bytes([record[at], record[at + 1]])
+}
+
+fn long(record: &StateRecord, at: usize) -> u32 {
+    u32::from_be_bytes([record[at], record[at + 1], record[at + 2], record[at + 3]])
+}
+
 impl State {
     /// The state record, with 0 cycles used.
     pub fn to_record(&self) -> [u8; doors::STATE] {
         let mut record = [0; doors::STATE];
-        record[0] = self.a;
-        record[1] = self.b;
-        record[2..4].copy_from_slice(&self.x.to_be_bytes());
-        record[4..6].copy_from_slice(&self.y.to_be_bytes());
-        record[6..8].copy_from_slice(&self.sp.to_be_bytes());
-        record[8..10].copy_from_slice(&self.pc.to_be_bytes());
-        record[10] = self.ccr;
-        record[11] = u8::from(self.waiting);
-        record[12..16].copy_from_slice(&self.clock.to_be_bytes());
+        record[at::A] = self.a;
+        record[at::B] = self.b;
+        record[at::X..at::Y].copy_from_slice(&self.x.to_be_bytes());
+        record[at::Y..at::SP].copy_from_slice(&self.y.to_be_bytes());
+        record[at::SP..at::PC].copy_from_slice(&self.sp.to_be_bytes());
+        record[at::PC..at::CCR].copy_from_slice(&self.pc.to_be_bytes());
+        record[at::CCR] = self.ccr;
+        record[at::WAITING] = u8::from(self.waiting);
+        record[at::CLOCK..at::CYCLES].copy_from_slice(&self.clock.to_be_bytes());
         record
     }
 
-    /// The state of a record.
-    pub fn of_record(r: &[u8; doors::STATE]) -> State {
-        let word = |i: usize| u16::from_be_bytes([r[i], r[i + 1]]);
+    /// The state of a record that was kept. What the library would refuse is refused here too, in its order:
+    /// [`Error::WrongLength`], [`Error::WrongFlag`], [`Error::WrongReserved`].
+    pub fn of_record(record: &[u8]) -> Result<State, Error> {
+        Ok(State::of_tested(&tested(record)?))
+    }
+
+    pub(crate) fn of_tested(record: &StateRecord) -> State {
         State {
-            a: r[0],
-            b: r[1],
-            x: word(2),
-            y: word(4),
-            sp: word(6),
-            pc: word(8),
-            ccr: r[10],
-            waiting: r[11] == 1,
-            clock: u32::from_be_bytes([r[12], r[13], r[14], r[15]]),
+            a: record[at::A],
+            b: record[at::B],
+            x: word(record, at::X),
+            y: word(record, at::Y),
+            sp: word(record, at::SP),
+            pc: word(record, at::PC),
+            ccr: record[at::CCR],
+            waiting: record[at::WAITING] == 1,
+            clock: long(record, at::CLOCK),
         }
     }
 }
 
-/// A record of a schedule: from this cycle on, this line byte.
-#[derive(Clone, Copy, Debug, PartialEq, Eq)]
-pub struct Record {
-    /// The cycle number.
-    pub cycle: u32,
-    /// The line byte.
-    pub line: u8,
+/// The record itself, where the library would take it.
+pub(crate) fn tested(record: &[u8]) -> Result<StateRecord, Error> {
+    let record = StateRecord::try_from(record).map_err(|_| Error::WrongLength)?;
+    if record[at::WAITING] > 1 {
+        return Err(Error::WrongFlag);
+    }
+    if record[at::RESERVED..].iter().any(|&byte| byte != 0) {
+        return Err(Error::WrongReserved);
+    }
+    Ok(record)
 }
 
-impl Record {
-    /// The packed schedule of some records.
-    pub fn pack(schedule: &[Record]) -> Vec<u8> {
-        let mut bytes = Vec::with_capacity(schedule.len() * doors::RECORD);
-        for record in schedule {
-            bytes.extend_from_slice(&record.cycle.to_be_bytes());
-            bytes.push(record.line);
-        }
-        bytes
-    }
+/// The cycles that the last operation used.
+pub(crate) fn cycles_used(record: &StateRecord) -> u32 {
+    long(record, at::CYCLES)
 }

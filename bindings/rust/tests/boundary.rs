@@ -4,15 +4,25 @@
 //! panics. BOUNDARY_CASES and BOUNDARY_SEED give the number of random cases and their seed.
 #![no_main]
 
-use cpu12::{doors, Error, Machine, Record, State};
+mod common;
+
+use common::{asked, number, state_of};
+use cpu12::{doors, lines, Error, Machine, Record, State};
 use second::case::{Action, Case, Memories};
-use second::cpu::Cpu;
 use second::generate::{Generator, Kind};
 use second::machine;
 use std::os::raw::{c_char, c_int};
 
 /// LDAA #$7F, and NOP: a run with a budget of 1 ends before the NOP.
 const LDAA: [u8; 3] = [0x86, 0x7F, 0xA7];
+
+/// A state with this program counter and these condition codes, and else 0.
+fn state_at(pc: u16, ccr: u8) -> State {
+    let mut state = State::default();
+    state.pc = pc;
+    state.ccr = ccr;
+    state
+}
 
 /// A machine at $4000 with this code there, and the memory.
 fn at_4000(code: &[u8]) -> (Machine, Vec<u8>) {
@@ -21,7 +31,7 @@ fn at_4000(code: &[u8]) -> (Machine, Vec<u8>) {
     memory[0xFFFE] = 0x40;
     let mut machine = Machine::new(State::default());
     assert_eq!(machine.reset(&memory), Ok(()));
-    assert_eq!(machine.state(), State { pc: 0x4000, ccr: 0xD0, ..State::default() });
+    assert_eq!(machine.state(), state_at(0x4000, 0xD0));
     (machine, memory)
 }
 
@@ -42,7 +52,9 @@ fn replies_of_the_machine() {
 
     let (mut machine, mut memory) = at_4000(&LDAA);
     assert_eq!(machine.run(&mut memory, &[], 100_000_001), Err(Error::PastLimit));
-    let late = Machine::new(State { clock: 3_999_999_901, ..machine.state() });
+    let mut late = machine.state();
+    late.clock = 3_999_999_901;
+    let late = Machine::new(late);
     assert_eq!({ late }.step(&mut memory, 0), Err(Error::PastLimit));
     assert_eq!({ late }.run(&mut memory, &[], 100), Err(Error::PastLimit));
 }
@@ -84,30 +96,118 @@ fn numbers(state: &[u8], memory: &[u8], schedule: &[u8]) -> (u32, u32, u32) {
     (reset, stepped, ran)
 }
 
-fn refusals_of_the_doors() {
+/// The bytes of a state record that mean something, and the place of the waiting flag among them.
+const MEANT: usize = 20;
+const WAITING: usize = 11;
+
+fn refused_records() {
     let (machine, memory) = at_4000(&LDAA);
-    let record = machine.state().to_record();
+    let record = machine.record();
     for length in 0..=2 * doors::STATE {
         let mut state = record.to_vec();
         state.resize(length, 0);
         let expected = if length == doors::STATE { 0 } else { 100 };
         assert_eq!(numbers(&state, &memory, &[]), (expected, expected, expected));
+        assert_eq!(number(Machine::of_record(&state)), expected);
         // The door's own refusal comes before the machine's.
         let expected = if length == doors::STATE { 1 } else { 100 };
         assert_eq!(numbers(&state, &[], &[1; 5]), (expected, expected, expected));
     }
     for flag in 0..=255 {
-        let mut state = record;
-        state[11] = flag;
+        let mut state = *record;
+        state[WAITING] = flag;
         let expected = if flag <= 1 { 0 } else { 101 };
         assert_eq!(numbers(&state, &memory, &[]), (0, expected, expected));
+        assert_eq!(number(State::of_record(&state)), expected);
+        // The waiting flag comes before the reserved bytes, and these before the packing of the schedule and the memory.
+        state[doors::STATE - 1] = 1;
+        let expected = if flag <= 1 { 103 } else { 101 };
+        assert_eq!(numbers(&state, &[], &[1; 4]), (1, expected, expected));
+        assert_eq!(number(State::of_record(&state)), expected);
     }
+    for place in MEANT..doors::STATE {
+        for byte in [0x01, 0x80, 0xFF] {
+            let mut state = *record;
+            state[place] = byte;
+            assert_eq!(numbers(&state, &memory, &[]), (0, 103, 103));
+            assert_eq!(number(Machine::of_record(&state)), 103);
+        }
+    }
+}
+
+fn refused_schedules() {
+    let (machine, memory) = at_4000(&LDAA);
     let packed: Vec<u8> = (0..70).flat_map(|i| [0, 0, 0, i, 0]).collect();
     for length in 0..=packed.len() {
         let expected = if length % 5 != 0 { 102 } else { u32::from(length > 320) * 2 };
-        assert_eq!(numbers(&record, &memory, &packed[..length]), (0, 0, expected));
+        assert_eq!(numbers(machine.record(), &memory, &packed[..length]), (0, 0, expected));
         let expected = if length % 5 != 0 { 102 } else { 1 };
-        assert_eq!(numbers(&record, &[], &packed[..length]), (1, 1, expected));
+        assert_eq!(numbers(machine.record(), &[], &packed[..length]), (1, 1, expected));
+    }
+}
+
+/// A record is read back as it was, with the cycles used.
+fn kept_records() {
+    let (mut machine, mut memory) = at_4000(&LDAA);
+    assert_eq!(machine.run(&mut memory, &[], 1), Ok(1));
+    assert_eq!(Machine::of_record(machine.record()), Ok(machine));
+    assert_eq!(State::of_record(machine.record()), Ok(machine.state()));
+    let bytes: [u8; doors::STATE] = std::array::from_fn(|i| match i {
+        WAITING => 1,
+        _ if i < MEANT => i as u8 + 1,
+        _ => 0,
+    });
+    let kept = Machine::of_record(&bytes).expect("the record is right");
+    assert_eq!((kept.record(), kept.cycles()), (&bytes, 0x1112_1314));
+    let mut without_cycles = bytes;
+    without_cycles[16..MEANT].fill(0);
+    assert_eq!(kept.state().to_record(), without_cycles);
+}
+
+/// Every number is an error that has this number, whether it has a name or not.
+fn unknown_numbers() {
+    assert_eq!(Error::check(0), Ok(()));
+    for number in (1..2_000).chain([u32::MAX]) {
+        let error = Error::check(number).expect_err("it is not 0");
+        assert_eq!(error.number(), number);
+        let named = (1..=5).contains(&number) || (100..=103).contains(&number);
+        assert_eq!(error == Error::Unknown(number), !named);
+        assert!(!error.to_string().is_empty());
+    }
+}
+
+/// Each line is entered by its vector, before those of higher bits, and held back by its mask alone.
+fn request_lines() {
+    for (bit, &vector) in lines::VECTORS.iter().enumerate() {
+        let xirq = 1 << bit == lines::XIRQ;
+        let (_, mut memory) = at_4000(&[0xA7]);
+        memory[usize::from(vector)..][..2].copy_from_slice(&[0x56, 0x78]);
+        let mut machine = Machine::new(state_at(0x4000, 0));
+        assert_eq!(machine.step(&mut memory, 0xFF << bit), Ok(9));
+        assert_eq!(
+            (machine.state().pc, machine.state().ccr),
+            (0x5678, if xirq { 0x50 } else { 0x10 })
+        );
+        let (masked, open) = if xirq { (0x40, 0x10) } else { (0x10, 0x40) };
+        let mut machine = Machine::new(state_at(0x4000, masked));
+        assert_eq!(machine.step(&mut memory, 1 << bit), Ok(1));
+        let mut machine = Machine::new(state_at(0x4000, open));
+        assert_eq!(machine.step(&mut memory, 1 << bit), Ok(9));
+    }
+    let all = lines::DEVICES.iter().fold(lines::XIRQ | lines::IRQ, |all, line| all | line);
+    assert_eq!(all, 0xFF);
+}
+
+/// The encodings that stop the machine, and no others of the two pages.
+fn stops() {
+    let stops = [0x00, 0x01, 0x0A, 0x3C, 0x4A, 0x4B];
+    let after_18 = [0x3A, 0x3B, 0x3C, 0x3E];
+    for opcode in 0..=255 {
+        for (code, stopping) in [(vec![opcode], &stops[..]), (vec![0x18, opcode], &after_18)] {
+            let (mut machine, mut memory) = at_4000(&code);
+            let stopped = machine.step(&mut memory, 0) == Err(Error::Stopped);
+            assert_eq!(stopped, stopping.contains(&opcode), "{:02X?}", code);
+        }
     }
 }
 
@@ -121,7 +221,7 @@ fn memory_lengths() {
         let mut reset = machine;
         assert_eq!(reset.reset(memory), expected.map(|_| ()));
         let pc = if length == doors::MEMORY { 0xA7A7 } else { 0 };
-        assert_eq!(reset.state(), State { pc, ccr: 0xD0, ..State::default() });
+        assert_eq!(reset.state(), state_at(pc, 0xD0));
         let (mut stepped, mut ran) = (machine, machine);
         assert_eq!(stepped.step(memory, 0), expected);
         assert_eq!(ran.run(memory, &[], 1), expected);
@@ -129,20 +229,6 @@ fn memory_lengths() {
             assert!(stepped == machine && ran == machine);
         }
         assert!(room.iter().all(|&byte| byte == 0xA7));
-    }
-}
-
-fn state_of(cpu: &Cpu) -> State {
-    State {
-        a: cpu.a,
-        b: cpu.b,
-        x: cpu.x,
-        y: cpu.y,
-        sp: cpu.sp,
-        pc: cpu.pc,
-        ccr: cpu.ccr,
-        waiting: cpu.waiting,
-        clock: cpu.clock,
     }
 }
 
@@ -166,14 +252,12 @@ fn by_the_second(case: &Case, memory: &mut [u8]) -> Left {
     (u32::from(outcome.reply.number()), outcome.cycles, state_of(&cpu))
 }
 
-fn number<T>(result: Result<T, Error>) -> u32 {
-    result.map_or_else(Error::number, |_| 0)
-}
-
 fn through_the_boundary(case: &Case, memory: &mut [u8]) -> Left {
     let (machine, reply) = match &case.action {
         Action::Reset => {
-            let mut machine = Machine::new(State { a: 1, waiting: true, ..State::default() });
+            let mut waiting = state_at(1, 1);
+            waiting.waiting = true;
+            let mut machine = Machine::new(waiting);
             let reply = number(machine.reset(memory));
             (machine, reply)
         }
@@ -210,20 +294,19 @@ fn random_cases(count: u64, seed: u64) {
     assert!(count < 1_000 || met.iter().all(|&times| times > 0), "replies met: {:?}", met);
 }
 
-fn asked(name: &str, otherwise: u64) -> u64 {
-    match std::env::var(name) {
-        Ok(text) => text.parse().expect("a decimal number"),
-        Err(_) => otherwise,
-    }
-}
-
 /// The program.
 #[no_mangle]
 pub extern "C" fn main(_count: c_int, _words: *const *const c_char) -> c_int {
     let (count, seed) = (asked("BOUNDARY_CASES", 100_000), asked("BOUNDARY_SEED", 1));
+    assert_eq!(doors::version(), doors::VERSION);
     replies_of_the_machine();
     schedules();
-    refusals_of_the_doors();
+    refused_records();
+    refused_schedules();
+    kept_records();
+    unknown_numbers();
+    request_lines();
+    stops();
     memory_lengths();
     random_cases(count, seed);
     println!("Rust: every reply, the wrong lengths, and {} random cases, seed {}", count, seed);

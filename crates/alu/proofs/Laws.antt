@@ -1,4 +1,4 @@
--- The two formulas of NEG as comparisons, each tested at every byte, and two rows and a trap of document 01. Assumes nothing.
+-- The two formulas of NEG as comparisons, each tested at every byte, and two rows and a trap of docs/MACHINE.md. Assumes nothing.
 use Prim.Native.Nat.{ℕ, _<_}
 use mathlib.Core.Path.{_≡_, refl}
 use mathlib.Core.Bool.{not}

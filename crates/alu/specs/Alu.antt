@@ -107,7 +107,7 @@ maxWord f x m = wideOf (max x m) (λ _. differenceCodes 15 f x m (differenceOf 1
 abbrev pub minWord : Flags → ℕ → ℕ → Word
 minWord f x m = wideOf (min x m) (λ _. differenceCodes 15 f x m (differenceOf 15 x m false))
 
--- Two rows of document 01's table and one of its traps, each proved under the same name in proofs/Laws.antt.
+-- Two rows of docs/MACHINE.md ("Sign bench examples") and one of its traps, each proved under the same name in proofs/Laws.antt.
 
 -- row 2: ADDA #01 with CCR D0 and A 7F gives A 80, CCR FA
 abbrev pub RowTwo : Type 0

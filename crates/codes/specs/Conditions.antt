@@ -59,6 +59,6 @@ AndccKeepsX = (f : Flags) (mask : ℕ) → andccOf f mask .x ≡ true → f .x �
 abbrev pub OrccKeepsX : Type 0
 OrccKeepsX = (f : Flags) (mask : ℕ) → orccOf f mask .x ≡ true → f .x ≡ true
 
--- document 01, row 7: ORCC #FF on CCR 00 gives BF
+-- row 7 of docs/MACHINE.md: ORCC #FF on CCR 00 gives BF
 abbrev pub RowSeven : Type 0
 RowSeven = ccrOf (orccOf (flagsOf 0) 255) ≡ 191

@@ -13,6 +13,10 @@ use Rattle.table.specs.Records.{cyclesOf, linesOf}
 use Rattle.packing.specs.Bytes.{stateOf, bytesOf, recordsOf}
 use Rattle.lent.specs.Lent.{lengthRefusal, recordRefusal, lentRefusal}
 
+-- the version of the boundary (docs/GUIDE-ABI.md says what a change of it means)
+abbrev pub version : ℕ
+version = 2
+
 -- what a door leaves: the reply's number, the bytes of the state record, and the memory
 pub record Left : Type 0 where
   pub reply : ℕ

@@ -6,7 +6,15 @@ ghost use mathlib.Core.Path.{_≡_};
 ghost use lib.ListN.{length};
 ghost use Rattle.machine.specs.Names.{numberOf};
 ghost use Rattle.packing.specs.Bytes.{recordSize, bytesOf};
-ghost use Rattle.cpu12.specs.Doors.{resetLeaves, stepLeaves, runLeaves, Leaves};
+ghost use Rattle.cpu12.specs.Doors.{version, resetLeaves, stepLeaves, runLeaves, Leaves};
+
+// The version of these doors, by which a program knows that it was compiled for the library that it is linked with.
+#[no_mangle]
+pub extern "C" fn cpu12_version() -> u32
+    ensures { λ r. ⌜ r ≡ version ⌝ }
+{
+    2
+}
 
 // The machine's answer: its state and cycles go into the record, and its reply's number is returned.
 fn told(r: &mut [u8], answer: Answer) -> u32

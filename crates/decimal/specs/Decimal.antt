@@ -43,7 +43,7 @@ serves w c h a =
     Bool·beq (w .carry) c && leb (w .high-from) (a / 16) && leb (a / 16) (w .high-to)
     && Bool·beq (w .half) h && leb (w .low-from) (a % 16) && leb (a % 16) (w .low-to)
 
--- the correction factor of the row that serves; where none does, 00 (document 01, "Codes and undefined results")
+-- the correction factor of the row that serves; where none does, 00 (docs/MACHINE.md, "Codes and undefined results")
 abbrev pub factorOf : List Row → Bool → Bool → ℕ → ℕ
 factorOf [] c h a = 0
 factorOf (w ∷ ws) c h a = pick (serves w c h a) (w .factor) (factorOf ws c h a)

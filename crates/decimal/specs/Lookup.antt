@@ -17,7 +17,7 @@ lookupOf b y1 y2 =
     pick (leb y1 y2) (y1 + b * (y2 - y1) / 256)
     (y1 - (b * (y1 - y2) + 255) / 256)
 
--- N and Z from the result; V is not affected; C: undefined, and so as it was (document 01, "Codes and undefined results")
+-- N and Z from the result; V is not affected; C: undefined, and so as it was (docs/MACHINE.md, "Codes and undefined results")
 abbrev pub lookupCodes : ℕ → Flags → ℕ → Flags
 lookupCodes k f r = setZ (setN f (bitOf k r)) (eqb r 0)
 

@@ -1,5 +1,5 @@
 -- What stands at an address: an instruction with its length and cost, an encoding that stops the machine, or a reserved postbyte
--- (document 01, "Numbered replies", 4 and 5; "Steps and cycles").
+-- (docs/MACHINE.md, "Numbered replies", 4 and 5; "Reserved postbytes"; "Steps and cycles").
 use Prim.Native.Nat.{ℕ, _<_}
 use mathlib.Core.Path.{_≡_}
 use mathlib.Core.Bool.{Bool, true, _&&_, _||_}
@@ -70,7 +70,7 @@ fetchedOf m pc =
     (pick (reservedAt m (cellAt m pc) (afterOpcode m pc)) Reserved
     (Instruction (decodedOf m pc (cellAt m pc) (afterOpcode m pc))))
 
--- the number of what was fetched, as document 01 numbers the replies: 4 for one of the ten, 5 for a reserved postbyte, and 0 for an
+-- the number of what was fetched, as docs/MACHINE.md numbers the replies: 4 for one of the ten, 5 for a reserved postbyte, and 0 for an
 -- instruction, which is then done
 abbrev pub fetchedReply : Fetched → ℕ
 fetchedReply Stop = 4

@@ -13,7 +13,7 @@ use Rattle.state.specs.State.{withA, withB, withX, withY, withSp, withPc, withF
 use Rattle.effect.specs.declared.Effect.{Effect}
 use Rattle.effect.specs.Effect.{writes}
 
--- The frame, from the new SP upward: CCR, B, A, X, Y, PC, each high byte first (document 01, "Requests"; 002, p. 6-196).
+-- The frame, from the new SP upward: CCR, B, A, X, Y, PC, each high byte first (docs/MACHINE.md, "Requests"; 002, p. 6-196).
 abbrev pub frameOf : State → List ℕ
 frameOf s =
     ccrOf (s .flags) ∷ s .b ∷ s .a ∷ highOf (s .x) ∷ lowOf (s .x) ∷ highOf (s .y) ∷ lowOf (s .y) ∷ highOf (s .pc) ∷ lowOf (s .pc) ∷ []
@@ -43,8 +43,8 @@ pulledFrame s m =
     (wordAt m (plusW (s .sp) 5)))
     (wordAt m (plusW (s .sp) 7))
 
--- The frame by its places, pushed and pulled, so that it cannot be changed here and in the code together (document 01, "Requests", "Traps
--- for the hasty": B lies below A). Proved as `by-places` in proofs/Laws.antt.
+-- The frame by its places, pushed and pulled, so that it cannot be changed here and in the code together (docs/MACHINE.md, "Requests",
+-- "Traps for the hasty": B lies below A). Proved as `by-places` in proofs/Laws.antt.
 pub record ByPlaces (s : State) (m : List ℕ) : Type 0 where
   pub b : byteAt (frameOf s) 1 ≡ s .b
   pub a : byteAt (frameOf s) 2 ≡ s .a

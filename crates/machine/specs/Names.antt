@@ -1,4 +1,4 @@
--- The numbers that document 01 gives to the machine, each named here once.
+-- The numbers that docs/MACHINE.md gives to the machine, each named here once.
 use Prim.Native.Nat.{ℕ, _*_}
 use mathlib.Core.Path.{_≡_}
 use mathlib.Core.List.{List, [], _∷_}

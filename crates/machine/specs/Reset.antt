@@ -1,4 +1,4 @@
--- Reset (document 01, "Numbered replies"): its reply and the state that it leaves, for every memory.
+-- Reset (docs/MACHINE.md, "Numbered replies", "Steps and cycles"): its reply and the state that it leaves, for every memory.
 use Prim.Native.Nat.{ℕ}
 use mathlib.Core.Bool.{true}
 use mathlib.Core.List.{List}

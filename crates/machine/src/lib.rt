@@ -5,7 +5,7 @@ ghost use mathlib.Core.Path.{_≡_};
 ghost use Rattle.machine.specs.Names.{numberOf};
 ghost use Rattle.machine.specs.Reset.{resetState, resetReply, resetOf};
 
-// Document 01's replies; `numberOf` in specs/Names.antt gives the number of each.
+// The replies of docs/MACHINE.md, "Numbered replies"; `numberOf` in specs/Names.antt gives the number of each.
 pub enum Reply {
     Done,
     WrongMemory,

@@ -1,4 +1,4 @@
--- The memory: 65,536 bytes, each at its address (source document 002, section 2.3, p. 2-5; document 01, "Addresses").
+-- The memory: 65,536 bytes, each at its address (source document 002, section 2.3, p. 2-5; docs/MACHINE.md, "Addresses").
 use Prim.Native.Nat.{ℕ, zero, suc, _+_, _*_, _/_, _%_, _^_, _<_, _≤_, min}
 use mathlib.Core.Path.{_≡_}
 use mathlib.Core.List.{List, [], _∷_}

@@ -9,7 +9,7 @@ groupOf kind = kind / 16
 abbrev pub memberOf : ℕ → ℕ
 memberOf kind = kind % 16
 
--- what stops the machine (document 01's ten encodings; CALL has two), and the prebyte
+-- what stops the machine (the ten encodings of docs/MACHINE.md, "The machine"; CALL has two), and the prebyte
 abbrev pub BGND : ℕ
 BGND = 0x00
 

@@ -27,7 +27,7 @@ abbrev pub [D:IDX] : ℕ
 abbrev pub [IDX2] : ℕ
 [IDX2] = 4
 
--- The form that a postbyte names, by the rules of document 01, "Addresses" (source document 000, table 4; 002, table A-5):
+-- The form that a postbyte names, by the rules of docs/MACHINE.md, "Addresses" (source document 000, table 4; 002, table A-5):
 -- rr0nnnnn is a 5-bit offset, rr1pnnnn with rr not 3 a step before or after, both IDX; 111rr0zs with z = 0 is a 9-bit offset,
 -- with zs = 10 a 16-bit one, with zs = 11 indirect through a 16-bit one; 111rr1aa is an accumulator offset, with aa = 11 indirect.
 unfoldable pub formOf : ℕ → ℕ
@@ -46,7 +46,7 @@ extensionOf form = pick (eqb form IDX1) 1 (pick (eqb form IDX2) 2 (pick (eqb for
 abbrev pub indexedOf : Cell → Bool
 indexedOf c = leb ID (c .mode)
 
--- What is reserved (document 01, "Reserved"). In a TFR or EXG postbyte: register code 3 in bits 6 to 4 or 2 to 0.
+-- What is reserved (docs/MACHINE.md, "Reserved postbytes"). In a TFR or EXG postbyte: register code 3 in bits 6 to 4 or 2 to 0.
 abbrev pub transferReserved : ℕ → Bool
 transferReserved postbyte = eqb (postbyte / 16 % 8) 3 || eqb (postbyte % 8) 3
 

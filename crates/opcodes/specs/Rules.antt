@@ -23,8 +23,8 @@ abbrev pub among : ℕ → List ℕ → Bool
 among k [] = false
 among k (n ∷ ns) = eqb k n || among k ns
 
--- The ten encodings of document 01: 00 BGND, 01 MEM, 0A RTC, 3C wavr, 4A and 4B CALL, and on page 2 3A REV, 3B REVW, 3C WAV,
--- 3E STOP.
+-- The ten encodings of docs/MACHINE.md, "The machine": 00 BGND, 01 MEM, 0A RTC, 3C wavr, 4A and 4B CALL, and on page 2 3A REV, 3B REVW,
+-- 3C WAV, 3E STOP.
 abbrev pub stopCell : ℕ → Bool
 stopCell k =
     among k (0x00 ∷ 0x01 ∷ 0x0A ∷ 0x3C ∷ 0x4A ∷ 0x4B ∷ 0x13A ∷ 0x13B ∷ 0x13C ∷ 0x13E ∷ [])
@@ -79,7 +79,7 @@ abbrev pub SixteenBySixteen : Type 0
 SixteenBySixteen = Sixteens pageOne × Sixteens pageTwo
 
 -- Some costs by their opcodes, on page 1 RTI 0B, EDIV 11, MUL 12, EMUL 13, WAI 3E, SWI 3F, and on page 2 IDIV 10, EMACS 12, EMULS 13, the
--- trap 30: so they cannot be changed in the map and in the code's table together (003, the HCS12 column; document 01, "Requests").
+-- trap 30: so they cannot be changed in the map and in the code's table together (003, the HCS12 column; docs/MACHINE.md, "Requests").
 abbrev pub CostsByOpcode : Type 0
 CostsByOpcode =
     map (λ k. cellOf k .cost) (0x0B ∷ 0x11 ∷ 0x12 ∷ 0x13 ∷ 0x3E ∷ 0x3F ∷ 0x110 ∷ 0x112 ∷ 0x113 ∷ 0x130 ∷ [])
@@ -114,6 +114,6 @@ movesMode mode = among mode (IM-EX ∷ EX-EX ∷ IM-ID ∷ EX-ID ∷ ID-ID ∷ I
 abbrev pub MovesHaveTwoPlaces : Type 0
 MovesHaveTwoPlaces = (k : ℕ) → groupOf (cellOf k .kind) ≡ MOVES → movesMode (cellOf k .mode) ≡ true
 
--- and a postbyte in a mode past ID, which is a move's, has the form IDX or is reserved (document 01, "Reserved")
+-- and a postbyte in a mode past ID, which is a move's, has the form IDX or is reserved (docs/MACHINE.md, "Reserved postbytes")
 abbrev pub MovesArePlain : Type 0
 MovesArePlain = (k postbyte : ℕ) → ID < cellOf k .mode → reservedOf (cellOf k) postbyte ≡ false → formOf postbyte ≡ IDX

@@ -1,7 +1,7 @@
 // The kinds of instruction by their names, as specs/Kind.antt numbers them: the number without its last digit is the group,
 // the last digit the member. Nothing else in the code knows the numbers.
 
-// What stops the machine (document 01's ten encodings; CALL has two), and the prebyte.
+// What stops the machine (the ten encodings of docs/MACHINE.md, "The machine"; CALL has two), and the prebyte.
 pub const BGND: u16 = 0x00;
 
 pub const MEM: u16 = 0x01;

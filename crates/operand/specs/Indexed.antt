@@ -1,4 +1,4 @@
--- The effective address of an indexed operand, and the base register's update with it (document 01, "Addresses"; source document
+-- The effective address of an indexed operand, and the base register's update with it (docs/MACHINE.md, "Addresses"; source document
 -- 002, section 3.8, pp. 3-5 to 3-10, and table A-5; 000, table 4).
 use Prim.Native.Nat.{ℕ, _+_, _*_, _/_, _%_}
 use mathlib.Core.Path.{_≡_}
@@ -119,8 +119,8 @@ PlainByItsForm =
     formOf (byteAt m at) ≡ IDX →
     plainPlace s pc (byteAt m at) ≡ indexedPlace s m at pc
 
--- An accumulator is added to X without a sign (document 01, "Traps for the hasty"), by the postbytes E4, E5 and E6: so it cannot be taken
--- for signed here and in the code together. Proved under this name in proofs/Forms.antt.
+-- An accumulator is added to X without a sign (docs/MACHINE.md, "Traps for the hasty"), by the postbytes E4, E5 and E6: so it cannot be
+-- taken for signed here and in the code together. Proved under this name in proofs/Forms.antt.
 abbrev pub AddsUnsigned : Type 0
 AddsUnsigned =
     (s : State) (m : List ℕ) (at pc : ℕ) →

@@ -3,7 +3,7 @@ use Prim.Native.Nat.{ℕ, zero, suc, _+_, _<_, _≤_}
 use native.Mathlib.Omega.{arith}
 use mathlib.Core.Path.{_≡_, refl, sym, _∙_, ap}
 use mathlib.Core.Bool.{Bool, true, false}
-use mathlib.Core.List.{List, [], _∷_}
+use mathlib.Core.List.{List, [], _∷_, _++_}
 use lib.Dec.{eqb}
 use lib.ListN.{length, getD, take, drop}
 use lib.Seq.{drop-cons}
@@ -11,7 +11,7 @@ use Rattle.word.specs.Word.{highOf, lowOf, wordOf, highWord, lowWord, longOf}
 use Rattle.word.proofs.Laws.{high-word, low-word, word-halves, word-below, high-long, low-long, long-halves}
 use Rattle.state.specs.Ccr.{weightOf}
 use Rattle.state.proofs.Laws.{byte-again, flags-again}
-use Rattle.packing.specs.Bytes.{byteIn, wordThen, longThen, stateOf, bytesOf}
+use Rattle.packing.specs.Bytes.{byteIn, wordThen, longThen, stateOf, meantBytes, bytesOf}
 use Rattle.packing.specs.Again.{StateAgain, stateBytes, IsRecord, BytesAgain}
 
 -- a number of 32 bits, by its four bytes
@@ -23,7 +23,7 @@ flag-again true = refl
 flag-again false = refl
 
 pub state-again : StateAgain
-unfolding stateOf bytesOf
+unfolding stateOf bytesOf meantBytes
 state-again s cycles =
     rw (
       word-halves (s .x),
@@ -64,13 +64,14 @@ spelt r (suc n) i fits =
     rw (drop-cons r i 0 (omega (arith, fits))) (ap (λ (bs : List ℕ). getD r i 0 ∷ bs) (spelt r n (suc i) (omega (arith, fits))))
 
 pub bytes-again : BytesAgain
-unfolding stateOf bytesOf spell
+unfolding stateOf bytesOf meantBytes spell
 bytes-again r cycles bytes is =
     let b : ℕ → ℕ = byteIn r in
     let clock = long-spelt (b 12) (b 14) (bytes 13) (bytes 14) (bytes 15) [] in
-    let same : stateBytes (bytesOf (stateOf r) cycles) ≡ spell r 16 0 =
+    let same : take 16 (bytesOf (stateOf r) cycles) ≡ spell r 16 0 =
     λ j.
     b 0 ∷ b 1
     ∷ word-spelt (b 2) (bytes 3) (word-spelt (b 4) (bytes 5) (word-spelt (b 6) (bytes 7) (word-spelt (b 8) (bytes 9)
     (byte-again (b 10) (bytes 10) j ∷ byte-of-flag (b 11) (is .flag) j ∷ clock j) j) j) j) j in
-    same ∙ sym (spelt r 16 0 (omega (arith, is .whole)))
+    let front = same ∙ sym (spelt r 16 0 (omega (arith, is .whole))) in
+    λ j. front j ++ sym (is .reserved) j

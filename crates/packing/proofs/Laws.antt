@@ -1,17 +1,28 @@
 -- The laws of the state record and of the packed schedule, on the definitions alone. Assumes nothing.
-use Prim.Native.Nat.{ℕ, suc, _+_, _-_, _/_, _<_, _≤_}
+use Prim.Native.Nat.{ℕ, zero, suc, _+_, _-_, _/_, _<_, _≤_}
 use native.Mathlib.Omega.{arith}
 use native.Mathlib.Numerals.{add-one}
 use mathlib.Core.Path.{_≡_, refl, sym, _∙_}
-use mathlib.Core.List.{List, [], _∷_}
-use lib.ListN.{length, getD, set, take, length-set}
+use mathlib.Core.List.{List, [], _∷_, _++_}
+use lib.ListN.{length, getD, set, take, replicate, length-set}
 use lib.Seq.{take-all, take-suc, take-suc-set}
 use Rattle.state.specs.declared.State.{State}
-use Rattle.packing.specs.Bytes.{recordSize, packedSize, bytesOf, recordAt, recordsFrom, recordsOf}
+use Rattle.packing.specs.Bytes.{byteIn, recordSize, packedSize, meantBytes, bytesOf, recordAt, recordsFrom, recordsOf}
 
 pub bytes-long : (s : State) (cycles : ℕ) → length (bytesOf s cycles) ≡ recordSize
-unfolding bytesOf
+unfolding bytesOf meantBytes
 bytes-long s cycles = refl
+
+-- where zeros follow, a byte is what it was without them: past the end it is 0 anyway
+zero-in-zeros : (n i : ℕ) → byteIn (replicate n 0) i ≡ 0
+zero-in-zeros zero i = refl
+zero-in-zeros (suc n) zero = refl
+zero-in-zeros (suc n) (suc i) = zero-in-zeros n i
+
+pub zeros-follow : (bytes : List ℕ) (n i : ℕ) → byteIn (bytes ++ replicate n 0) i ≡ byteIn bytes i
+zeros-follow [] n i = zero-in-zeros n i
+zeros-follow (b ∷ bytes) n zero = refl
+zeros-follow (b ∷ bytes) n (suc i) = zeros-follow bytes n i
 
 -- What holds at each turn of the loop that copies a record's bytes: the first of them are there.
 pub record Copying (bytes r : List ℕ) (i : ℕ) : Type 0 where

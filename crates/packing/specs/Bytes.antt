@@ -1,8 +1,8 @@
 -- The machine's state and a schedule as bytes. Every number of more than a byte has its highest byte first, as in the machine's memory.
 use Prim.Native.Nat.{ℕ, zero, suc, _+_, _/_}
-use mathlib.Core.List.{List, [], _∷_}
+use mathlib.Core.List.{List, [], _∷_, _++_}
 use lib.Dec.{eqb}
-use lib.ListN.{length, getD}
+use lib.ListN.{length, getD, replicate}
 use Rattle.word.specs.Word.{highOf, lowOf, wordOf, highWord, lowWord, longOf}
 use Rattle.state.specs.declared.State.{State}
 use Rattle.state.specs.Ccr.{weightOf, ccrOf, flagsOf}
@@ -27,12 +27,19 @@ wordThen w bytes = highOf w ∷ lowOf w ∷ bytes
 abbrev pub longThen : ℕ → List ℕ → List ℕ
 longThen n bytes = wordThen (highWord n) (wordThen (lowWord n) bytes)
 
--- the bytes of a state record, and the place of its waiting flag, 0 or 1
+-- the bytes of a state record, the place of its waiting flag, 0 or 1, and the place from which on its bytes are reserved
 abbrev pub recordSize : ℕ
-recordSize = 20
+recordSize = 48
 
 abbrev pub waitingPlace : ℕ
 waitingPlace = 11
+
+abbrev pub reservedPlace : ℕ
+reservedPlace = 20
+
+-- the reserved bytes: all 0, until a later part of the machine is given some of them
+abbrev pub reservedBytes : List ℕ
+reservedBytes = replicate 28 0
 
 -- the state of a state record: first A, B, X, Y, SP and PC
 abbrev pub registersOf : List ℕ → State
@@ -47,12 +54,16 @@ stateOf r =
     let codes = withFlags (registersOf r) (flagsOf (byteIn r 10)) in
     withClock (withWaiting codes (eqb (byteIn r waitingPlace) 1)) (longIn r 12)
 
--- the state record of a state, which ends with the cycles used
-unfoldable pub bytesOf : State → ℕ → List ℕ
-bytesOf s cycles =
+-- the bytes of a state record that have a meaning: those of a state, and then the cycles used
+unfoldable pub meantBytes : State → ℕ → List ℕ
+meantBytes s cycles =
     s .a ∷ s .b
     ∷ wordThen (s .x) (wordThen (s .y) (wordThen (s .sp) (wordThen (s .pc)
     (ccrOf (s .flags) ∷ weightOf (s .standing .waiting) 1 ∷ longThen (s .clock) (longThen cycles [])))))
+
+-- the state record of a state: those, and the reserved bytes
+unfoldable pub bytesOf : State → ℕ → List ℕ
+bytesOf s cycles = meantBytes s cycles ++ reservedBytes
 
 -- the bytes of a packed record of a schedule
 abbrev pub packedSize : ℕ

@@ -9,12 +9,14 @@ ghost use Prim.Native.Nat.{_≤_, _+_};
 ghost use lib.ListN.{length};
 ghost use Rattle.state.specs.Ccr.{weightOf};
 ghost use Rattle.table.specs.Records.{noRecords, gathered};
-ghost use Rattle.packing.specs.Bytes.{wordIn, longIn, recordSize, packedSize, stateOf, bytesOf, recordAt, recordsOf};
+ghost use Rattle.packing.specs.Bytes.{byteIn, wordIn, longIn, recordSize, packedSize, stateOf, meantBytes, bytesOf, recordAt, recordsOf};
 
-// The bytes of a state record, and the place of its waiting flag.
-pub const STATE: usize = 20;
+// The bytes of a state record, the place of its waiting flag, and the place from which on its bytes are reserved.
+pub const STATE: usize = 48;
 
 pub const WAITING: usize = 11;
+
+pub const RESERVED: usize = 20;
 
 // The bytes of a packed record of a schedule.
 pub const PACKED: usize = 5;
@@ -55,8 +57,8 @@ pub fn state_of(r: &[u8]) -> State
         .with_clock(long_in(r, 12))
 }
 
-fn bytes_of(s: State, cycles: u32) -> [u8; STATE]
-    ensures { λ r. ⌜ r ≡ bytesOf s cycles ⌝ }
+fn meant_bytes(s: State, cycles: u32) -> [u8; RESERVED]
+    ensures { λ r. ⌜ r ≡ meantBytes s cycles ⌝ }
 {
     let standing = s.standing;
     let f = s.flags;
@@ -90,14 +92,21 @@ fn bytes_of(s: State, cycles: u32) -> [u8; STATE]
     ]
 }
 
+// The byte of a record at a place, by those that have a meaning: past them it is 0.
+fn byte_of(meant: [u8; RESERVED], i: usize) -> u8
+    ensures { λ r. ⌜ r ≡ byteIn meant i ⌝ }
+{
+    if i < RESERVED { meant[i] } else { 0 }
+}
+
 pub fn put_record(r: &mut [u8], s: State, cycles: u32)
     requires { ⌜ length (now r) ≡ recordSize ⌝ }
     ensures { λ _. ⌜ now (r .exit) ≡ bytesOf s cycles ⌝ }
 {
-    let bytes = bytes_of(s, cycles);
+    let meant = meant_bytes(s, cycles);
     let mut i = 0;
     while i < STATE {
-        r[i] = bytes[i];
+        r[i] = byte_of(meant, i);
         i += 1;
     }
 }

@@ -55,6 +55,6 @@ emacsLong f x y m = longResult ((signedProduct x y + m) % 4294967296) (emacsCode
 abbrev pub SignedProduct : Type 0
 SignedProduct = (x y : ℕ) → x < 65536 → y < 65536 → signedProduct x y ≡ extend16 x * extend16 y % 4294967296
 
--- document 01, row 8: MUL of 10 by 08 gives D 0080, C set
+-- row 8 of docs/MACHINE.md: MUL of 10 by 08 gives D 0080, C set
 abbrev pub RowEight : Type 0
 RowEight = (f : Flags) → mulWord f 16 8 ≡ record { value = 128; flags = setC f true }

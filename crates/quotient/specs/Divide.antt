@@ -1,6 +1,6 @@
 -- The divisions, from their glossary pages in source document 002. The quotient goes to X (IDIV, IDIVS, FDIV) or to Y (EDIV, EDIVS),
--- the remainder to D. What a page calls undefined or indeterminate, or gives no result for, stays as it was (document 01, "Codes
--- and undefined results"): then the quotient is the register that it would have gone to, and the remainder is D.
+-- the remainder to D. What a page calls undefined or indeterminate, or gives no result for, stays as it was (docs/MACHINE.md,
+-- "Codes and undefined results"): then the quotient is the register that it would have gone to, and the remainder is D.
 use Prim.Native.Nat.{ℕ, zero, suc, _+_, _-_, _*_, _/_, _%_, _^_}
 use mathlib.Core.Path.{_≡_}
 use mathlib.Core.Bool.{Bool, true, false, _&&_, _||_, not}
@@ -78,7 +78,7 @@ edivsOf f y d x = signedDivision f y d (bitOf 15 y) (magnitudeOf 31 (longOf y d)
 
 -- Worked numbers, each proved under the same name in proofs/Laws.antt.
 
--- row 9 of document 01's table: IDIV with X = 0 gives X FFFF, C set, D kept
+-- row 9 of docs/MACHINE.md: IDIV with X = 0 gives X FFFF, C set, D kept
 abbrev pub RowNine : Type 0
 RowNine = (f : Flags) (d : ℕ) → idivOf f d 0 ≡ record { quotient = 65535; remainder = d; flags = setC (setV (setZ f false) false) true }
 

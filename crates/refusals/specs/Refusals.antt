@@ -1,4 +1,4 @@
--- What a step and what a run refuse, and in which order (document 01, "Numbered replies"). A later reply that refuses is added here.
+-- What a step and what a run refuse, and in which order (docs/MACHINE.md, "Numbered replies"). A later reply that refuses is added here.
 use Prim.Native.Nat.{ℕ, _+_}
 use mathlib.Core.Bool.{Bool, not, _||_}
 use mathlib.Core.List.{List}

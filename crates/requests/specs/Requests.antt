@@ -1,4 +1,4 @@
--- The lines of request: which is entered, and what an entry and the end of a wait do (document 01, "Requests").
+-- The lines of request: which is entered, and what an entry and the end of a wait do (docs/MACHINE.md, "Requests").
 use Prim.Native.Nat.{ℕ, _/_, _%_}
 use mathlib.Core.Path.{_≡_}
 use mathlib.Core.Bool.{true, false, _&&_, not}

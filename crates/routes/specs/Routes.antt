@@ -47,7 +47,7 @@ indexedToExtended s m at =
     routeIs (from .address) (wordAt m (plusW at 1)) (from .state)
 
 -- The source's postbyte, PC - 1, and then the destination's, PC + 1. The source's address and update come first, and the
--- destination starts from the updated register (document 01).
+-- destination starts from the updated register (docs/MACHINE.md, "Addresses").
 unfoldable pub indexedToIndexed : State → List ℕ → ℕ → Route
 indexedToIndexed s m at =
     let from = indexedPlace s m at (minusW (s .pc) 1) in

@@ -1,4 +1,4 @@
--- A run: steps taken one after another, up to a budget (document 01, "Numbered replies", "Requests").
+-- A run: steps taken one after another, up to a budget (docs/MACHINE.md, "Numbered replies", "Requests").
 use Prim.Native.Nat.{ℕ, suc}
 use mathlib.Core.List.{List}
 use lib.Dec.{eqb}

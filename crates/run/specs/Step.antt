@@ -1,4 +1,4 @@
--- A single step: reply, state, cycles used and all bytes, for every input (document 01, "Numbered replies").
+-- A single step: reply, state, cycles used and all bytes, for every input (docs/MACHINE.md, "Numbered replies").
 use Prim.Native.Nat.{ℕ}
 use mathlib.Core.List.{List}
 use lib.Dec.{eqb}

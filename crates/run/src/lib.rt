@@ -1,5 +1,5 @@
 // One step under a line byte, and a run with a schedule and a budget: what is lent is tested first (`refusals`), and refused with
-// document 01's number; then both are the one loop (`steps`).
+// its number in docs/MACHINE.md; then both are the one loop (`steps`).
 use machine::Machine;
 use steps::Answer;
 ghost use mathlib.Core.Path.{_≡_};

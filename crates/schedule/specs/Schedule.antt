@@ -1,4 +1,4 @@
--- The schedule (document 01, "Requests" and reply 2): records, each a cycle number and a line byte, as two lists of the same length.
+-- The schedule (docs/MACHINE.md, "Requests" and reply 2): records, each a cycle number and a line byte, as two lists of the same length.
 use Prim.Native.Nat.{ℕ, zero, suc}
 use mathlib.Core.Bool.{Bool, true, _&&_}
 use mathlib.Core.List.{List, [], _∷_}

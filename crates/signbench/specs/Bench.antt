@@ -1,4 +1,4 @@
--- The sign bench: what it does with an image, and the line that it prints (document 01, "Sign bench examples").
+-- The sign bench: what it does with an image, and the line that it prints (docs/MACHINE.md, "Sign bench examples").
 use Prim.Native.Nat.{ℕ}
 use mathlib.Core.Path.{_≡_}
 use mathlib.Core.List.{List, [], _++_}

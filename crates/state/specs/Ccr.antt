@@ -54,7 +54,7 @@ abbrev pub flagsOf : ℕ → Flags
 flagsOf b = record { s = bitOf 7 b; x = bitOf 6 b; h = bitOf 5 b; i = bitOf 4 b; n = bitOf 3 b; z = bitOf 2 b; v = bitOf 1 b; c = bitOf 0 b }
 
 -- A byte taken into the flags by an instruction: the flags of the byte, but X is set only where it was set before
--- (document 01, "Codes and undefined results"; source document 002, section 2.1.5.2, p. 2-3).
+-- (docs/MACHINE.md, "Codes and undefined results"; source document 002, section 2.1.5.2, p. 2-3).
 abbrev pub takeCcr : Flags → ℕ → Flags
 takeCcr old b = setX (flagsOf b) (old .x && bitOf 6 b)
 

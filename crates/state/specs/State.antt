@@ -1,5 +1,5 @@
 -- The programming model (source document 002, section 2.1, p. 2-1): A, B, X, Y, SP, PC and the condition codes; and what
--- document 01 adds, the waiting flag and the clock. The waiting flag stands in a record of its own, which later parts of a machine join.
+-- docs/MACHINE.md adds, the waiting flag and the clock. The waiting flag stands in a record of its own, which later parts of a machine join.
 use Prim.Native.Nat.{ℕ}
 use mathlib.Core.Bool.{Bool, true, false}
 use Rattle.word.specs.Word.{highOf, lowOf, wordOf}

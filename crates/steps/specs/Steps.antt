@@ -1,4 +1,4 @@
--- Steps taken one after another, each under the line byte in force at its boundary's clock (document 01, "Numbered replies",
+-- Steps taken one after another, each under the line byte in force at its boundary's clock (docs/MACHINE.md, "Numbered replies",
 -- "Requests").
 use Prim.Native.Nat.{ℕ, zero, suc, _+_, _-_}
 use mathlib.Core.Bool.{not}

@@ -1,4 +1,4 @@
--- A schedule as a list of records (document 01, "Requests"), and the table that its first records are put into.
+-- A schedule as a list of records (docs/MACHINE.md, "Requests"), and the table that its first records are put into.
 use Prim.Native.Nat.{ℕ, _+_, _<_}
 use mathlib.Core.List.{List, [], _∷_, map}
 use lib.Dec.{ltb}

@@ -1,4 +1,4 @@
--- What comes next at a boundary (document 01, "Numbered replies": entry, waiting, 4, 5; "Requests").
+-- What comes next at a boundary (docs/MACHINE.md, "Numbered replies": entry, waiting, 4, 5; "Requests").
 use Prim.Native.Nat.{ℕ}
 use mathlib.Core.Path.{_≡_}
 use mathlib.Core.Bool.{true}

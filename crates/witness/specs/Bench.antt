@@ -1,5 +1,5 @@
--- The sign bench examples of document 01, as a reset, a step and a run answer them over memories of 65,536 bytes: what the definitions
--- give, beside what the paper says. Numbers are hexadecimal, as there. Both theorems are proved under the same names in
+-- The sign bench examples of docs/MACHINE.md, as a reset, a step and a run answer them over memories of 65,536 bytes: what the definitions
+-- give, beside what that page says. Numbers are hexadecimal, as there. Both theorems are proved under the same names in
 -- proofs/Bench.antt. Row 14 is `RowFourteen` in Bound.antt.
 use Prim.Native.Nat.{ℕ, zero, suc}
 use mathlib.Core.Path.{_≡_}
@@ -63,7 +63,7 @@ gone e = e .reply ∷ e .state .pc ∷ e .cycles ∷ []
 abbrev pub trapped : End → List ℕ
 trapped e = e .reply ∷ e .state .sp ∷ wordAt (e .memory) 0x1FFE ∷ e .cycles ∷ []
 
--- a row: the numbers found, and those that the paper gives
+-- a row: the numbers found, and those that the page gives
 pub record BenchRow : Type 0 where
   pub found : List ℕ
   pub wanted : List ℕ

@@ -32,7 +32,7 @@ pub record Reached (T n : ℕ) (m : List ℕ) (given : Given) (budget : ℕ) : T
 abbrev pub TheBoundIsReached : Type 0
 TheBoundIsReached = Reached 2 2 slowest (givenIs (2 ∷ []) (1 ∷ [])) 23
 
--- Document 01's row 14: X clear, EMACS begun at 100, XIRQ at 101: the handler begins at 122.
+-- Row 14 of docs/MACHINE.md: X clear, EMACS begun at 100, XIRQ at 101: the handler begins at 122.
 abbrev pub RowFourteen : Type 0
 RowFourteen =
     (afterSteps 2 (givenIs (101 ∷ []) (1 ∷ [])) (withClock (withPc noState 0x4002) 100) slowest .state .pc ≡ 0x5000)

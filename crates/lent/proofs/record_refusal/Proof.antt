@@ -3,6 +3,7 @@ use borrow.Author.Tests.{lt-ltb, le-ltb}
 use mathlib.Core.Path.{sym, _∙_}
 use native.Mathlib.Omega.{arith}
 use Rattle.packing.specs.Bytes.{byteIn, waitingPlace}
+use Rattle.lent.specs.Lent.{firstOf}
 use Rattle.lent.proofs.Laws.{other-length, first-refuses, first-passes}
 use Rattle.lent.proofs.record_refusal.Statement.{statement}
 use Rattle.lent.proofs.record_refusal.Tie as tie
@@ -14,6 +15,7 @@ reads-flag c =
     omega (arith, other-length (lent .r .now) (sym (asked .length-refusal .ensures) ∙ c .before .if1 .left))
 
 wrong-flag : tie.Need-returns-2
+unfolding firstOf
 wrong-flag c =
     let asked = c .before .before .before in
     let flag = byteIn (asked .before .before .args .r .now) waitingPlace in
@@ -22,13 +24,35 @@ wrong-flag c =
       lt-ltb 1 flag (omega (arith, c .if2 .taken)),
     )
 
-none : tie.Need-returns-3
-none c =
+whole : tie.Need-nothing-reserved-requires
+whole c κs =
     let asked = c .before .before .before in
+    other-length (asked .before .before .args .r .now) (sym (asked .length-refusal .ensures) ∙ c .before .before .if1 .left)
+
+none : tie.Need-returns-3
+unfolding firstOf
+none c =
+    let passed = c .before .before in
+    let asked = passed .before .before .before in
     let flag = byteIn (asked .before .before .args .r .now) waitingPlace in
     rw (
-      first-passes _ _ (asked .length-refusal .ensures) (c .before .before .if1 .left),
-      le-ltb 1 flag (omega (arith, c .if2 .left)),
+      first-passes _ _ (asked .length-refusal .ensures) (passed .before .before .if1 .left),
+      le-ltb 1 flag (omega (arith, passed .if2 .left)),
+      ← c .before .nothing-reserved .ensures,
+      c .if3 .taken,
+    )
+
+wrong-reserved : tie.Need-returns-4
+unfolding firstOf
+wrong-reserved c =
+    let passed = c .before .before in
+    let asked = passed .before .before .before in
+    let flag = byteIn (asked .before .before .args .r .now) waitingPlace in
+    rw (
+      first-passes _ _ (asked .length-refusal .ensures) (passed .before .before .if1 .left),
+      le-ltb 1 flag (omega (arith, passed .if2 .left)),
+      ← c .before .nothing-reserved .ensures,
+      c .if3 .left,
     )
 
 pub record-refusal-spec : {M : Type 1} → statement M
@@ -39,4 +63,6 @@ record-refusal-spec =
     (λ c. first-refuses _ _ (c .before .length-refusal .ensures) (c .if1 .taken))
     reads-flag
     wrong-flag
-    none)
+    whole
+    none
+    wrong-reserved)

@@ -1,10 +1,10 @@
 use borrow.Author.Needs.{needs}
-use Rattle.packing.specs.Bytes.{bytesOf}
-use Rattle.packing.proofs.bytes_of.Statement.{statement}
-use Rattle.packing.proofs.bytes_of.Tie as tie
+use Rattle.packing.specs.Bytes.{meantBytes}
+use Rattle.packing.proofs.meant_bytes.Statement.{statement}
+use Rattle.packing.proofs.meant_bytes.Tie as tie
 
 returns : tie.Need-returns
-unfolding bytesOf
+unfolding meantBytes
 returns c =
     let cycles-high = c .before .before in
     let clock-low = cycles-high .before .before in
@@ -41,8 +41,8 @@ returns c =
       flags .before .ccr .ensures,
     )
 
-pub bytes-of-spec : {M : Type 1} → statement M
-bytes-of-spec =
+pub meant-bytes-spec : {M : Type 1} → statement M
+meant-bytes-spec =
     tie.close
     (tie.spec
     (λ c κs. search needs)
