@@ -198,6 +198,7 @@ impl<P: Processor> Sign<P> {
 
     /// The sign as it is so many cycles after a power warning that comes now, or once its list is safe, and whether it is.
     pub fn warned_for(&self, cycles: u32) -> (Sign<P>, bool) {
+        assert!(cycles <= SAVING, "the firmware did not save its list in time");
         let mut sign = self.clone();
         let warning = [Record { cycle: sign.clock(), line: XIRQ }];
         let is_safe = sign.processor.run(&mut sign.memory, &warning, cycles) == Ended::Stopped;
@@ -253,16 +254,16 @@ impl<P: Processor> Sign<P> {
         self.order(Question::SetTime, 0, 0, entry)
     }
 
-    /// Lets the minutes pass that the firmware has not counted yet. One that came up empty, or missed more than a day, is told the time.
+    /// Lets the minutes pass that the firmware has not counted yet. One that came up empty, missed more than a day or is ahead is told
+    /// the time.
     pub fn catch_up(&mut self, minute: u32) -> Result<(), Warned> {
         let (season, counted) = self.status()?;
-        if season == NO_LIST || minute > counted + DAY {
-            return self.set_time(minute);
+        match minute.checked_sub(counted) {
+            Some(missed) if season != NO_LIST && missed <= DAY => {
+                (0..missed).try_for_each(|_| self.minute())
+            }
+            _ => self.set_time(minute),
         }
-        for _ in counted..minute {
-            self.minute()?;
-        }
-        Ok(())
     }
 
     /// A question that the firmware has to answer with 0.

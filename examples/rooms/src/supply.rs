@@ -3,7 +3,7 @@
 use crate::museum::{list_at, Told, CARRY, REHANG, ROOMS};
 use crate::power::{recovers, save};
 use crate::processor::Processor;
-use crate::sign::{Sign, NO_LIST, NUMBERS};
+use crate::sign::{Sign, NUMBERS};
 use crate::tiers::bring_up_to_date;
 
 /// A sign that is about to be warned, what was saved before, and what is to be saved now. The saves of a sign are counted from 1 on.
@@ -14,8 +14,8 @@ struct Save<P> {
     newer: Told,
 }
 
-/// The minute of a save. The first is from before the rehang, and from the third on the time needs both its words: so each list and
-/// time is unlike the two saved before it in all its parts.
+/// The minute of a save. The first is from before the rehang and the second from after it, so that no entry of their lists is alike;
+/// the time of the third differs from both in both its words. So a mixture of them is none of them.
 fn minute_of(nth: u32) -> u32 {
     match nth {
         1 => REHANG - 1,
@@ -76,15 +76,15 @@ impl<P: Processor> Save<P> {
     }
 }
 
-/// What a sign knew once the supply had fallen in a save and was back: all that was saved before, all that was to be saved, or
-/// another thing; how often its list was empty; and how often all was right once it had been given what it missed.
+/// What a sign knew once the supply had fallen in a save and was back: all that was saved before, all that was to be saved, nothing,
+/// or a mixture; and how often all was right once it had been given what it missed.
 #[derive(Default, PartialEq, Eq)]
 pub struct Cuts {
     pub tries: u32,
     pub older: u32,
     pub newer: u32,
-    pub mixed: u32,
     pub empty: u32,
+    pub mixed: u32,
     pub recovered: u32,
     /// So many cycles after the warning all was safe.
     pub safe_after: u32,
@@ -94,11 +94,12 @@ impl Cuts {
     fn count<P: Processor>(&mut self, save: &Save<P>, cut: Sign<P>) {
         let mut sign = cut.after_power_cut();
         let told = Told::by(&mut sign);
+        let known = [save.older, save.newer, Told::nothing()];
         self.tries += 1;
         self.older += u32::from(told == save.older);
         self.newer += u32::from(told == save.newer);
-        self.mixed += u32::from(told != save.older && told != save.newer);
-        self.empty += u32::from(told.season == NO_LIST);
+        self.empty += u32::from(told == Told::nothing());
+        self.mixed += u32::from(!known.contains(&told));
         self.recovered += u32::from(recovers(&mut sign, save.newer.minute));
     }
 }
@@ -113,7 +114,7 @@ pub struct Row {
 }
 
 impl Row {
-    /// Goes on until the save with this number is the coming one.
+    /// Goes on until this save is the coming one.
     fn until<P: Processor>(first: Save<P>, nth: u32) -> (Row, Save<P>) {
         let (mut row, mut save, mut last) = (Row::default(), first, None);
         while save.nth < nth {

@@ -11,6 +11,9 @@ use std::io::{self, Write};
 /// After its warning the sign's supply has to hold for so many microseconds.
 const HOLD_UP: u32 = 100;
 
+/// The minute that a sign which has come up empty is told: neither of its words is 0.
+const TOLD: u32 = CARRY + REHANG;
+
 /// What was found with the memory tier, and whether it was found with the others too.
 struct Found<T> {
     found: T,
@@ -48,8 +51,8 @@ pub fn tell(out: &mut impl Write) -> io::Result<()> {
     let set = found!(warned_set_time);
     let trial = found!(cut_supply);
     tell_of_warned_rehang(out, &rehang)?;
-    tell_of_warned_time(out, "the count of minute", &minute)?;
-    tell_of_warned_time(out, "the setting of the time to minute", &set)?;
+    tell_of_warned_time(out, &format!("the count of minute {}", CARRY), &minute)?;
+    tell_of_warned_time(out, &format!("the setting of the time to minute {}", TOLD), &set)?;
     tell_of_cuts(out, &trial)?;
     let warned = [&rehang.found, &minute.found, &set.found].map(|tally| tally.safe_after);
     let cut = trial.found.all_cuts().map(|cuts| cuts.safe_after);
@@ -65,13 +68,16 @@ fn warned_rehang(tier: &mut impl Tier) -> io::Result<Tally> {
     tier.with_sign(|sign| power::during_rehang(sign))
 }
 
+/// Warns a tier at every cycle of the count of a minute. The spare copy of the time has the minute before the last one.
 fn warned_minute(tier: &mut impl Tier) -> io::Result<Tally> {
-    tier.with_sign(|sign| sign.set_time(CARRY - 1).expect(CALM))?;
+    tier.with_sign(|sign| sign.set_time(CARRY - 2).expect(CALM))?;
+    tier.with_sign(|sign| sign.minute().expect(CALM))?;
     tier.with_sign(|sign| power::during_minute(sign, CARRY))
 }
 
+/// Warns a tier that has come up empty at every cycle in which it is told the time. The spare copy of the time has noise.
 fn warned_set_time(tier: &mut impl Tier) -> io::Result<Tally> {
-    tier.with_sign(|sign| power::during_set_time(sign, CARRY))
+    tier.with_sign(|sign| power::during_set_time(&sign.clone().after_power_cut(), TOLD))
 }
 
 fn cut_supply(tier: &mut impl Tier) -> io::Result<Trial> {
@@ -94,11 +100,7 @@ fn tell_of_warned_rehang(out: &mut impl Write, rehang: &Found<Tally>) -> io::Res
 
 fn tell_of_warned_time(out: &mut impl Write, work: &str, time: &Found<Tally>) -> io::Result<()> {
     let tally = &time.found;
-    writeln!(
-        out,
-        "\nA power warning in {} {}, at each of its {} cycles once",
-        work, CARRY, tally.cycles
-    )?;
+    writeln!(out, "\nA power warning in {}, at each of its {} cycles once", work, tally.cycles)?;
     tell_of_entries(out, tally)?;
     writeln!(
         out,
