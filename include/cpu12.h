@@ -27,7 +27,7 @@ extern "C" {
 /* The bytes of the memory. */
 #define CPU12_MEMORY 65536
 
-/* No call takes more bytes of stack than this, beside what memcpy and memset take. */
+/* No call takes more bytes of stack than this, beside what memcpy and memset take (and the loader, where it binds them at a call). */
 #define CPU12_STACK 4096
 
 /*

@@ -2,6 +2,7 @@
 
 use crate::images::Image;
 use cpu12::{Error, Machine, State};
+use second::cpu::Cpu;
 use second::machine;
 use std::time::{Duration, Instant};
 
@@ -69,6 +70,20 @@ pub fn steps(image: &Image, budget: u32) -> u32 {
     steps
 }
 
+fn state_of(cpu: &Cpu) -> State {
+    let mut state = State::default();
+    state.a = cpu.a;
+    state.b = cpu.b;
+    state.x = cpu.x;
+    state.y = cpu.y;
+    state.sp = cpu.sp;
+    state.pc = cpu.pc;
+    state.ccr = cpu.ccr;
+    state.waiting = cpu.waiting;
+    state.clock = cpu.clock;
+    state
+}
+
 pub fn by_the_second(image: &Image, budget: u32, timed: &mut Timed) -> Left {
     let mut memory = image.memory.clone();
     let schedule = schedule_for_the_second(image);
@@ -77,16 +92,6 @@ pub fn by_the_second(image: &Image, budget: u32, timed: &mut Timed) -> Left {
         let outcome = machine::run(&mut cpu, &mut memory, &schedule, budget);
         (cpu, outcome)
     });
-    let state = State {
-        a: cpu.a,
-        b: cpu.b,
-        x: cpu.x,
-        y: cpu.y,
-        sp: cpu.sp,
-        pc: cpu.pc,
-        ccr: cpu.ccr,
-        waiting: cpu.waiting,
-        clock: cpu.clock,
-    };
+    let state = state_of(&cpu);
     Left { reply: u32::from(outcome.reply.number()), cycles: outcome.cycles, state, memory }
 }

@@ -2,5 +2,5 @@
 
 /// A step over a memory that also holds the state record.
 pub fn overlapping(bytes: &mut [u8]) -> u32 {
-    cpu12::doors::step(&mut bytes[..20], &mut bytes[..], 0)
+    cpu12::doors::step(&mut bytes[..48], &mut bytes[..], 0)
 }
