@@ -215,8 +215,8 @@ fn random_case(seed: u64, met: &mut Met) {
     }
 }
 
-/// A stop that stands just where a request comes in, at every distance near the records that one run can be handed: the request is
-/// entered, and a run that did not know of it would stop.
+/// A stop that stands just where a request comes in, at every distance near the records that one run can be handed. The request is
+/// entered, or with nothing left to spend it gives reply 0; a run that did not know of it would stop.
 fn a_request_at_a_stop() {
     for distance in 1..200 {
         let mut program = vec![0x10, 0xAF]; // ANDCC #$AF
@@ -227,9 +227,11 @@ fn a_request_at_a_stop() {
             let line = |cycle| if cycle >= distance { lines::XIRQ } else { 0 };
             let record = |cycle| LongRecord { cycle: cycle as u64, line: line(cycle) };
             let schedule: Vec<LongRecord> = (1..=last).map(record).collect();
-            let mut pair = Pair::new(memory.clone(), cpu, 0, &schedule);
-            let reply = pair.run(1_000, &|| format!("a stop at {} of {}", distance, last));
-            assert_eq!(reply, 0);
+            for budget in [distance as u64, 1_000] {
+                let mut pair = Pair::new(memory.clone(), cpu, 0, &schedule);
+                let what = || format!("a stop at {} of {}", distance, last);
+                assert_eq!(pair.run(budget, &what), 0);
+            }
         }
     }
 }
