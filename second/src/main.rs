@@ -20,53 +20,81 @@ second: a second emulator of the CPU12 (HCS12 edition)
   second sums                       prints a checksum of each 8-bit operation over all
                                     its operands
   second bench                      resets and runs the image on standard input
-  second help                       prints this text
+  second help                       prints this text, as -h and --help do
 
-A malformed line or a wrong argument gets a message on standard error and status 1.
+What cannot be read on the command line gets a message, this text and status 2. A malformed
+case and what cannot be read or written get a message and status 1.
 ";
 
 /// Why a command failed. Messages have already been written in the first case.
 enum Failure {
     Reported,
     Message(String),
-    Io(io::Error),
+    /// The command line cannot be read.
+    Usage(String),
+    Reading(io::Error),
+    Writing(io::Error),
 }
 
+/// What is read says `Reading` itself; all else that can fail is writing.
 impl From<io::Error> for Failure {
     fn from(error: io::Error) -> Failure {
-        Failure::Io(error)
+        Failure::Writing(error)
     }
 }
 
 fn main() -> ExitCode {
-    let arguments: Vec<String> = std::env::args().skip(1).collect();
+    let arguments: Vec<String> =
+        std::env::args_os().skip(1).map(|word| word.to_string_lossy().into_owned()).collect();
     let words: Vec<&str> = arguments.iter().map(String::as_str).collect();
     let result = match words.as_slice() {
+        ["-h" | "--help" | "help", ..] => print_text(HELP),
         ["cases"] => cases(),
         ["generate", kind, count, seed] => generate(kind, count, seed),
         ["coverage"] => coverage(),
         ["cells"] => print_lines(&cells::lines()),
         ["sums"] => print_lines(&sums::lines()),
         ["bench"] => run_bench(),
-        ["help"] => print_text(HELP),
-        _ => Err(Failure::Message(format!("cannot read the command line\n\n{}", HELP))),
+        words => Err(Failure::Usage(misread(words))),
     };
-    match result {
-        Ok(()) => ExitCode::SUCCESS,
-        Err(Failure::Io(error)) if error.kind() == io::ErrorKind::BrokenPipe => ExitCode::SUCCESS,
-        Err(failure) => {
-            match failure {
-                Failure::Reported => {}
-                Failure::Message(text) => eprintln!("second: {}", text.trim_end()),
-                Failure::Io(error) => eprintln!("second: {}", error),
-            }
-            ExitCode::FAILURE
+    let (message, status) = match result {
+        Ok(()) => return ExitCode::SUCCESS,
+        // Who reads has read enough.
+        Err(Failure::Writing(error)) if error.kind() == io::ErrorKind::BrokenPipe => {
+            return ExitCode::SUCCESS
         }
+        Err(Failure::Reported) => return ExitCode::FAILURE,
+        Err(Failure::Message(text)) => (text, 1),
+        Err(Failure::Reading(error)) => (format!("cannot read the input: {}", error), 1),
+        Err(Failure::Writing(error)) => (format!("cannot write the output: {}", error), 1),
+        Err(Failure::Usage(text)) => (format!("{}\n\n{}", text, HELP.trim_end()), 2),
+    };
+    say(&message);
+    ExitCode::from(status)
+}
+
+/// A message on standard error. Where that cannot be written either, the status remains.
+fn say(text: &str) {
+    let _ = writeln!(io::stderr(), "second: {}", text);
+}
+
+/// What is wrong with a command line that is none of the known ones.
+fn misread(words: &[&str]) -> String {
+    match words {
+        [] => "a command is missing".to_string(),
+        ["generate", ..] => "generate takes KIND, COUNT and SEED".to_string(),
+        [command @ ("cases" | "coverage" | "cells" | "sums" | "bench"), extra, ..] => {
+            format!("{} takes no argument: '{}'", command, extra)
+        }
+        [word, ..] if word.starts_with('-') => format!("there is no option '{}'", word),
+        [word, ..] => format!("there is no command '{}'", word),
     }
 }
 
 fn print_text(text: &str) -> Result<(), Failure> {
-    io::stdout().write_all(text.as_bytes())?;
+    let mut output = io::stdout();
+    output.write_all(text.as_bytes())?;
+    output.flush()?;
     Ok(())
 }
 
@@ -87,7 +115,7 @@ where
     let mut complaints = Vec::new();
     for number in 1u64.. {
         line.clear();
-        if input.read_until(b'\n', &mut line)? == 0 {
+        if input.read_until(b'\n', &mut line).map_err(Failure::Reading)? == 0 {
             break;
         }
         if line.last() == Some(&b'\n') {
@@ -105,7 +133,7 @@ where
 /// Malformed lines are told on standard error, after everything has been answered.
 fn complain(complaints: &[String]) -> Result<(), Failure> {
     for complaint in complaints {
-        eprintln!("second: {}", complaint);
+        say(complaint);
     }
     if complaints.is_empty() {
         Ok(())
@@ -132,14 +160,13 @@ fn decimal(word: &str, place: &str) -> Result<u64, Failure> {
     let digits_only = !word.is_empty() && word.bytes().all(|c| c.is_ascii_digit());
     match word.parse() {
         Ok(number) if digits_only => Ok(number),
-        _ => Err(Failure::Message(format!("{} is no decimal number: '{}'", place, word))),
+        _ => Err(Failure::Usage(format!("{} is no decimal number: '{}'", place, word))),
     }
 }
 
 fn generate(kind: &str, count: &str, seed: &str) -> Result<(), Failure> {
-    let kind = Kind::from_word(kind).ok_or_else(|| {
-        Failure::Message(format!("KIND is none of s, r, z and mixed: '{}'", kind))
-    })?;
+    let kind = Kind::from_word(kind)
+        .ok_or_else(|| Failure::Usage(format!("KIND is none of s, r, z and mixed: '{}'", kind)))?;
     let count = decimal(count, "COUNT")?;
     let mut generator = Generator::new(kind, decimal(seed, "SEED")?);
     let mut output = BufWriter::new(io::stdout().lock());
@@ -178,6 +205,7 @@ fn coverage() -> Result<(), Failure> {
 fn run_bench() -> Result<(), Failure> {
     // One byte more than an image is enough to know that it is too long.
     let mut image = Vec::new();
-    io::stdin().lock().take(memory::SIZE as u64 + 1).read_to_end(&mut image)?;
+    let input = io::stdin().lock();
+    input.take(memory::SIZE as u64 + 1).read_to_end(&mut image).map_err(Failure::Reading)?;
     print_lines(&[bench::report(&mut image)])
 }

@@ -72,29 +72,104 @@ fn each_kind_writes_its_letter() {
 }
 
 #[test]
-fn wrong_arguments_get_a_message_and_status_1() {
-    let wrong: [&[&str]; 10] = [
-        &[],
-        &["nonsense"],
-        &["cases", "extra"],
-        &["sums", "extra"],
-        &["generate"],
-        &["generate", "q", "1", "1"],
-        &["generate", "s", "many", "1"],
-        &["generate", "s", "1", "-1"],
-        &["generate", "s", "+1", "1"],
-        &["generate", "s", "1", ""],
+fn a_wrong_command_line_gets_a_message_the_usage_and_status_2() {
+    let help = text(&second(&["help"], b"").stdout).to_string();
+    let wrong: [(&[&str], &str); 14] = [
+        (&[], "a command is missing"),
+        (&[""], "there is no command ''"),
+        (&["nonsense"], "there is no command 'nonsense'"),
+        (&["nonsense", "extra"], "there is no command 'nonsense'"),
+        (&["--nonsense"], "there is no option '--nonsense'"),
+        (&["-x", "cases"], "there is no option '-x'"),
+        (&["cases", "extra"], "cases takes no argument: 'extra'"),
+        (&["sums", "--extra"], "sums takes no argument: '--extra'"),
+        (&["generate", "s", "1"], "generate takes KIND, COUNT and SEED"),
+        (&["generate", "q", "1", "1"], "KIND is none of s, r, z and mixed: 'q'"),
+        (&["generate", "s", "many", "1"], "COUNT is no decimal number: 'many'"),
+        (&["generate", "s", "1", "-1"], "SEED is no decimal number: '-1'"),
+        (&["generate", "s", "+1", "1"], "COUNT is no decimal number: '+1'"),
+        (&["generate", "s", "1", ""], "SEED is no decimal number: ''"),
     ];
-    for arguments in wrong {
+    for (arguments, message) in wrong {
         let output = second(arguments, b"");
-        assert_eq!(output.status.code(), Some(1), "{:?}", arguments);
-        assert!(text(&output.stderr).starts_with("second: "), "{:?}", arguments);
-        assert!(output.stdout.is_empty());
+        assert_eq!(text(&output.stderr), format!("second: {}\n\n{}", message, help));
+        assert_eq!((output.stdout.len(), output.status.code()), (0, Some(2)), "{:?}", arguments);
     }
-    let output = second(&["generate", "q", "1", "1"], b"");
-    assert!(text(&output.stderr).contains("KIND"));
-    let output = second(&["generate", "s", "x", "1"], b"");
-    assert!(text(&output.stderr).contains("COUNT"));
+}
+
+#[test]
+fn an_argument_that_is_no_text_is_refused_as_others_are() {
+    use std::os::unix::ffi::OsStrExt;
+    let mut command = Command::new(env!("CARGO_BIN_EXE_second"));
+    let output = command.arg(std::ffi::OsStr::from_bytes(b"\xFF")).output().unwrap();
+    assert_eq!(output.status.code(), Some(2));
+    assert!(text(&output.stderr).starts_with("second: there is no command"));
+}
+
+/// A command with standard input from a file, and with standard output and standard error
+/// at files that take nothing.
+fn on_full_disk(arguments: &[&str], input: &str, full_error: bool) -> Output {
+    let full = || std::fs::OpenOptions::new().write(true).open("/dev/full").unwrap();
+    Command::new(env!("CARGO_BIN_EXE_second"))
+        .args(arguments)
+        .stdin(std::fs::File::open(input).unwrap())
+        .stdout(full())
+        .stderr(if full_error { full().into() } else { Stdio::piped() })
+        .spawn()
+        .unwrap()
+        .wait_with_output()
+        .unwrap()
+}
+
+#[test]
+fn output_that_cannot_be_written_is_an_error() {
+    let cases = concat!(env!("CARGO_MANIFEST_DIR"), "/../crates/cases/stdin");
+    let commands: [&[&str]; 7] = [
+        &["help"],
+        &["cells"],
+        &["sums"],
+        &["bench"],
+        &["cases"],
+        &["coverage"],
+        &["generate", "s", "10", "1"],
+    ];
+    for arguments in commands {
+        let output = on_full_disk(arguments, cases, false);
+        let message = "second: cannot write the output: No space left on device (os error 28)\n";
+        assert_eq!(text(&output.stderr), message, "{:?}", arguments);
+        assert_eq!(output.status.code(), Some(1), "{:?}", arguments);
+        assert_eq!(on_full_disk(arguments, cases, true).status.code(), Some(1));
+    }
+    assert_eq!(on_full_disk(&["nonsense"], cases, true).status.code(), Some(2));
+}
+
+#[test]
+fn input_that_cannot_be_read_is_an_error() {
+    for arguments in [["cases"], ["coverage"], ["bench"]] {
+        let output = Command::new(env!("CARGO_BIN_EXE_second"))
+            .args(arguments)
+            .stdin(std::fs::File::open("/").unwrap())
+            .output()
+            .unwrap();
+        assert!(text(&output.stderr).starts_with("second: cannot read the input: "));
+        assert_eq!((output.stdout.len(), output.status.code()), (0, Some(1)));
+    }
+}
+
+#[test]
+fn a_reader_that_leaves_is_no_error() {
+    for arguments in [["cells", "", "", ""], ["generate", "s", "100000", "1"]] {
+        let arguments = arguments.iter().filter(|word| !word.is_empty());
+        let mut child = Command::new(env!("CARGO_BIN_EXE_second"))
+            .args(arguments)
+            .stdout(Stdio::piped())
+            .stderr(Stdio::piped())
+            .spawn()
+            .unwrap();
+        drop(child.stdout.take());
+        let output = child.wait_with_output().unwrap();
+        assert_eq!((text(&output.stderr), output.status.code()), ("", Some(0)));
+    }
 }
 
 #[test]
@@ -145,9 +220,11 @@ fn bench_prints_one_line() {
 
 #[test]
 fn help_names_every_command() {
-    let output = second(&["help"], b"");
-    for command in ["cases", "generate", "coverage", "cells", "sums", "bench", "help"] {
-        assert!(text(&output.stdout).contains(&format!("second {}", command)));
+    for word in ["help", "--help", "-h"] {
+        let output = second(&[word], b"");
+        for command in ["cases", "generate", "coverage", "cells", "sums", "bench", "help"] {
+            assert!(text(&output.stdout).contains(&format!("second {}", command)));
+        }
+        assert_eq!((text(&output.stderr), output.status.code()), ("", Some(0)));
     }
-    assert_eq!(output.status.code(), Some(0));
 }

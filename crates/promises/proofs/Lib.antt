@@ -14,3 +14,5 @@ pub mod Exactly
 pub mod Due
 pub mod Replies
 pub mod InForce
+pub mod Handed
+pub mod SetBack

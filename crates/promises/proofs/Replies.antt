@@ -148,7 +148,7 @@ fallen-after c [] k inside down = absurd (omega (arith, inside))
 fallen-after c (d ∷ ds) zero inside down = rw (le-ltb c d down)
 fallen-after c (d ∷ ds) (suc k) inside down = also (ltb c d) (fallen-after d ds k (omega (arith, inside)) down)
 
-fallen : (cs : List ℕ) (k : ℕ) → suc k < length cs → getD cs (suc k) 0 ≤ getD cs k 0 → rising cs ≡ false
+pub fallen : (cs : List ℕ) (k : ℕ) → suc k < length cs → getD cs (suc k) 0 ≤ getD cs k 0 → rising cs ≡ false
 unfolding rising
 fallen [] k inside down = absurd (omega (arith, inside))
 fallen (c ∷ cs) k inside down = fallen-after c cs k inside down
@@ -238,7 +238,7 @@ run-gives-three s m given budget =
     (above 4000000000 (s .clock + budget) (λ h. omega (arith, h)) (λ h. omega (arith, h))))))))
     (λ p. (p .0, p .1 .0, p .1 .1), λ p. (p .0, (p .1, p .2)))
 
-run-accepted : (s : State) (m : List ℕ) (given : Given) (budget : ℕ) → (runRefusal s m given budget ≡ 0) ↔ RunAccepted s m given budget
+pub run-accepted : (s : State) (m : List ℕ) (given : Given) (budget : ℕ) → (runRefusal s m given budget ≡ 0) ↔ RunAccepted s m given budget
 run-accepted s m given budget = (
   λ e. let free = is-free s m given budget e in
       record { memory = free .whole; schedule = good-schedule given .0 (free .good); spends = free .small; clock = free .near },

@@ -85,7 +85,7 @@ one-more s m given left n e first fits rest =
     paid zero h = omega arith
     paid (suc k) h = let most = rest .paid k (omega (arith, h)) in omega (arith, most, fits)
 
-takes-steps :
+pub takes-steps :
     (k : ℕ) (s : State) (m : List ℕ) (given : Given) (left : ℕ) →
     left < k →
     Words s →
@@ -198,19 +198,30 @@ module _
           spent = λ r. let short = two .spent r in omega (arith, short);
         }
 
+-- an end of so many steps, and then what goes on from there as so many steps more
+pub and-then :
+    (s : State) (m : List ℕ) (given : Given) (room budget : ℕ) (e f : End) →
+    Words s →
+    AreBytes m →
+    (n : ℕ) × IsOfSteps n s m given room e →
+    (Words (e .state) → AreBytes (e .memory) → (k : ℕ) × IsOfSteps k (e .state) (e .memory) given budget f) →
+    (n : ℕ) × IsOfSteps n s m given (e .cycles + budget) (after (e .cycles) f)
+and-then s m given room budget e f w bytes so-far goes-on =
+    let there = words-after (so-far .0) s m given w bytes in
+    let words : Words (e .state) = rw (so-far .1 .state) (there .0) in
+    let held : AreBytes (e .memory) = rw (so-far .1 .memory) (there .1) in
+    let last = goes-on words held in
+    (so-far .0 + last .0, joined s m given (so-far .0) (last .0) room budget e f (so-far .1) (last .1))
+
 pub runs-go-on : RunsGoOn
 runs-go-on s m given room e w bytes (one-run budget free) = a-run-is-its-steps s m given budget w bytes free
 runs-go-on s m given room e w bytes (one-more-run {room = room′} {e = e′} runs budget free) =
-    let so-far = runs-go-on s m given room′ e′ w bytes runs in
-    let there = words-after (so-far .0) s m given w bytes in
-    let words : Words (e′ .state) = rw (so-far .1 .state) (there .0) in
-    let held : AreBytes (e′ .memory) = rw (so-far .1 .memory) (there .1) in
-    let last = a-run-is-its-steps (e′ .state) (e′ .memory) given budget words held free in
-    (so-far .0 + last .0, joined s m given (so-far .0) (last .0) room′ budget e′ _ (so-far .1) (last .1))
+    and-then s m given room′ budget e′ _ w bytes (runs-go-on s m given room′ e′ w bytes runs)
+    (λ words held. a-run-is-its-steps (e′ .state) (e′ .memory) given budget words held free)
 
 -- What a run keeps to from any boundary: its clock, its budget and its memory's length.
-record Keeps (s : State) (m : List ℕ) (left : ℕ) (e : End) : Type 0 where
-  clock : e .state .clock ≡ s .clock + e .cycles
+pub record Keeps (s : State) (m : List ℕ) (left : ℕ) (e : End) : Type 0 where
+  pub clock : e .state .clock ≡ s .clock + e .cycles
   most : e .cycles ≤ left
   length-is : length (e .memory) ≡ length m
 
@@ -229,7 +240,7 @@ step-keeps s m line left e fits rest =
       length-is = rest .length-is ∙ store-keeps m (turnOf s m line .effect .store .at) (bytesStored (turnOf s m line .effect .store));
     }
 
-keeps : (k : ℕ) (s : State) (m : List ℕ) (given : Given) (left : ℕ) → Keeps s m left (goesOn k given s m left)
+pub keeps : (k : ℕ) (s : State) (m : List ℕ) (given : Given) (left : ℕ) → Keeps s m left (goesOn k given s m left)
 unfolding goesOn
 keeps zero s m given left = here-keeps 0 s m left
 keeps (suc k) s m given left =

@@ -13,7 +13,7 @@ use Rattle.run.specs.Run.{runOf}
 use Rattle.walk.specs.Words.{Words}
 use Rattle.promises.specs.Steps.{IsOfSteps}
 
--- every run has one of document 01's replies, 0 to 5
+-- every run has one of the replies of docs/MACHINE.md, 0 to 5
 abbrev pub EveryRunReplies : Type 0
 EveryRunReplies = (s : State) (m : List ℕ) (given : Given) (budget : ℕ) → runOf s m given budget .reply ≤ 5
 

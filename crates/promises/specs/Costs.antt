@@ -1,4 +1,4 @@
--- Cycles used is the sum of the tabled costs of the steps taken (document 01, "Steps and cycles"). Each theorem is proved under the same
+-- Cycles used is the sum of the tabled costs of the steps taken (docs/MACHINE.md, "Steps and cycles"). Each theorem is proved under the same
 -- name in proofs/Costs.antt. The tables are those of crates/opcodes/specs: the cells of the opcode map and the grid of costs.
 use Prim.Native.Nat.{ℕ, zero, suc, _+_}
 use mathlib.Core.Path.{_≡_}

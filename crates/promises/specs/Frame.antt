@@ -1,4 +1,4 @@
--- The nine bytes of a frame, each by its place (document 01, "Requests"): from the address upward CCR, B, A, X, Y, PC, each word high
+-- The nine bytes of a frame, each by its place (docs/MACHINE.md, "Requests"): from the address upward CCR, B, A, X, Y, PC, each word high
 -- byte first. B lies below A.
 use Prim.Native.Nat.{ℕ, _+_, _/_, _%_}
 use mathlib.Core.Path.{_≡_}

@@ -3,6 +3,7 @@ pub mod Frame
 pub mod Store
 pub mod Outcome
 pub mod Steps
+pub mod SetBack
 pub mod Masks
 pub mod Plain
 pub mod Warning

@@ -1,7 +1,7 @@
--- Document 01's rules in plain numbers: its sections "Requests", "Addresses", "Codes and undefined results" and "Traps for the hasty", a
+-- The rules of docs/MACHINE.md in plain numbers: its sections "Requests", "Addresses", "Codes and undefined results" and "Traps for the hasty", a
 -- line each. Here a vector is an address, a cost is a number, and a byte of a frame has its place; none of the machine's own names for
 -- them is used. So a machine whose definitions and code were changed together would still be refused. `ARunIsItsSteps` (Steps.antt) says
--- that no part of a step is spent, and `BenchRows` (crates/witness) has document 01's own examples. The theorems begin with `Every`; each
+-- that no part of a step is spent, and `BenchRows` (crates/witness) has the examples of docs/MACHINE.md. The theorems begin with `Every`; each
 -- is proved under the same name, the line byte's in proofs/InForce.antt, those of requests in proofs/Lines.antt, the others in proofs/Plain.antt.
 use Prim.Native.Nat.{ℕ, suc, _+_, _-_, _*_, _/_, _%_, _<_, _≤_}
 use mathlib.Core.Path.{_≡_}

@@ -1,5 +1,5 @@
--- Each reply is given exactly when document 01 says ("Numbered replies"): one theorem for each reply of reset, step and run, proved under
--- the same name in proofs/Replies.antt. `P ↔ Q` is the pair of `P → Q` and `Q → P`. The tests are in document 01's order, so a later
+-- Each reply is given exactly when docs/MACHINE.md says ("Numbered replies"): one theorem for each reply of reset, step and run, proved under
+-- the same name in proofs/Replies.antt. `P ↔ Q` is the pair of `P → Q` and `Q → P`. The tests are in the order of docs/MACHINE.md, so a later
 -- reply says that no earlier one is due.
 use Prim.Native.Nat.{ℕ, suc, _+_, _-_, _<_, _≤_}
 use mathlib.Core.Path.{_≡_}

@@ -1,4 +1,4 @@
--- A run equals its steps taken one after another (document 01). Each theorem is proved under the same name in proofs/Steps.antt.
+-- A run equals its steps taken one after another (docs/MACHINE.md, "The machine"). Each theorem is proved under the same name in proofs/Steps.antt.
 use Prim.Native.Nat.{ℕ, zero, suc, _+_, _-_, _<_, _≤_}
 use mathlib.Core.Path.{_≡_}
 use mathlib.Core.List.{List}

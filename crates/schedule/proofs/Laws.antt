@@ -78,7 +78,7 @@ pub accepted-rising : (most : ℕ) (cs ls : List ℕ) → accepted most cs ls �
 accepted-rising most cs ls good = and-right (eqb (length cs) (length ls) && leb (length cs) most) (rising cs) good
 
 -- records after one that is after the clock are after it too
-later : (before c : ℕ) (cs ls : List ℕ) (clock : ℕ) → risingAfter c cs ≡ true → clock < c → inForce before cs ls clock ≡ before
+pub later : (before c : ℕ) (cs ls : List ℕ) (clock : ℕ) → risingAfter c cs ≡ true → clock < c → inForce before cs ls clock ≡ before
 unfolding risingAfter inForce
 later before c [] ls clock up after = refl
 later before c (d ∷ cs) [] clock up after = refl
@@ -87,7 +87,7 @@ later before c (d ∷ cs) (l ∷ ls) clock up after =
     rw (lt-leb d clock (omega (arith, above, after)))
     (later before d cs ls clock (and-right (ltb c d) _ up) (omega (arith, above, after)))
 
-rising-rest : (c : ℕ) (cs : List ℕ) → risingAfter c cs ≡ true → rising cs ≡ true
+pub rising-rest : (c : ℕ) (cs : List ℕ) → risingAfter c cs ≡ true → rising cs ≡ true
 unfolding risingAfter rising
 rising-rest c [] up = refl
 rising-rest c (d ∷ cs) up = and-right (ltb c d) _ up

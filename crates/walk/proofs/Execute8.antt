@@ -6,43 +6,47 @@ use Rattle.state.specs.declared.State.{State}
 use Rattle.opcodes.specs.Kind.{memberOf, TST}
 use Rattle.decode.specs.declared.Decoded.{Decoded}
 use Rattle.execute8.specs.Bytes.{memoryChanged, withAEffect, withBEffect, inMemoryEffect, inAEffect, inBEffect}
-use Rattle.walk.specs.Walk.{Before, before, Gives}
-use Rattle.walk.specs.Walk.Comes.{begins}
+use Rattle.walk.specs.Walk.{Before, before}
 use Rattle.walk.proofs.Results.{accumulated-byte, changed-byte}
 use Rattle.walk.proofs.Codes.{accumulated-x, changed-x}
-use Rattle.walk.proofs.Settings.{byte-in, held, set-a, set-b, set-codes, quietly, with-byte, if_does_else_}
+use Rattle.walk.proofs.Settings.{Yielding, byte-in, start, fit, set-a, set-b, set-codes, quietly, with-byte, if_does_else_}
 use Rattle.walk.proofs.Places.{place}
 
-module _ (s : State) (m : List ℕ) (d : Decoded) where
+module _ (s : State) (m : List ℕ) (d : Decoded) (c : ℕ) where
   abbrev b : Before
   b = before s m d
 
   abbrev member : ℕ
   member = memberOf (d .kind)
 
-  pub with-a : Gives b (withAEffect s m d)
+  pub with-a : Yielding b c s (λ z. withAEffect z m d)
   unfolding withAEffect
   with-a =
-      let w = place s m d .state in
-      quietly (set-codes (set-a w (λ k. accumulated-byte member _ _ _ (held w k .a) (byte-in k _))) (accumulated-x member _ _ _))
+      let p = place s m d c in
+      let w = p .state in
+      rw (p .same)
+      (quietly (set-codes (set-a w (λ k. accumulated-byte member _ _ _ (fit w k .a) (byte-in k _))) (accumulated-x member _ _ _)))
 
-  pub with-b : Gives b (withBEffect s m d)
+  pub with-b : Yielding b c s (λ z. withBEffect z m d)
   unfolding withBEffect
   with-b =
-      let w = place s m d .state in
-      quietly (set-codes (set-b w (λ k. accumulated-byte member _ _ _ (held w k .b) (byte-in k _))) (accumulated-x member _ _ _))
+      let p = place s m d c in
+      let w = p .state in
+      rw (p .same)
+      (quietly (set-codes (set-b w (λ k. accumulated-byte member _ _ _ (fit w k .b) (byte-in k _))) (accumulated-x member _ _ _)))
 
-  pub in-memory : Gives b (inMemoryEffect s m d)
+  pub in-memory : Yielding b c s (λ z. inMemoryEffect z m d)
   unfolding inMemoryEffect memoryChanged
   in-memory =
-      let p = place s m d in
-      if eqb (d .kind) TST does quietly (set-codes (p .state) (changed-x member _ _)) else
-      with-byte (set-codes (p .state) (changed-x member _ _)) (p .address) (λ k. changed-byte member _ _ (byte-in k _))
+      let p = place s m d c in
+      rw (p .same)
+      (if eqb (d .kind) TST does quietly (set-codes (p .state) (changed-x member _ _)) else
+      with-byte (set-codes (p .state) (changed-x member _ _)) (p .address) (λ k. changed-byte member _ _ (byte-in k _)))
 
-  pub in-a : Gives b (inAEffect s d)
+  pub in-a : Yielding b c s (λ z. inAEffect z d)
   unfolding inAEffect
-  in-a = quietly (set-codes (set-a begins (λ k. changed-byte member _ _ (k .registers .a))) (changed-x member _ _))
+  in-a = quietly (set-codes (set-a start (λ k. changed-byte member _ _ (k .registers .a))) (changed-x member _ _))
 
-  pub in-b : Gives b (inBEffect s d)
+  pub in-b : Yielding b c s (λ z. inBEffect z d)
   unfolding inBEffect
-  in-b = quietly (set-codes (set-b begins (λ k. changed-byte member _ _ (k .registers .b))) (changed-x member _ _))
+  in-b = quietly (set-codes (set-b start (λ k. changed-byte member _ _ (k .registers .b))) (changed-x member _ _))

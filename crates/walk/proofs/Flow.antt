@@ -12,7 +12,7 @@ use Rattle.word.specs.Word.{minusW}
 use Rattle.memory.specs.Memory.{byteAt, wordAt}
 use Rattle.state.specs.declared.Flags.{Flags}
 use Rattle.state.specs.declared.State.{State}
-use Rattle.state.specs.State.{dOf}
+use Rattle.state.specs.State.{withClock, dOf}
 use Rattle.state.proofs.Laws.{never-sets-x}
 use Rattle.logic.specs.Logic.{allClear, allSet}
 use Rattle.codes.specs.Conditions.{conditionOf}
@@ -29,28 +29,26 @@ use Rattle.flow.specs.Control.{controlEffect}
 use Rattle.moves.specs.Moves.{byteMoveEffect, wordMoveEffect, moveEffect}
 use Rattle.moves.specs.Addresses.{addressed, addressEffect}
 use Rattle.moves.specs.Bits.{bitsChanged, bitted, bitsEffect}
-use Rattle.walk.specs.Walk.{Before, before, Fits, Comes, IsBranch, Gives}
-use Rattle.walk.specs.Walk.Comes.{begins}
-use Rattle.walk.specs.Walk.Gives.{untaken, waits}
+use Rattle.walk.specs.Walk.{Before, before, Fits, IsBranch}
 use Rattle.walk.proofs.Results.{counted-below}
-use Rattle.walk.proofs.Settings.{byte-in, word-in, held, d-held}
+use Rattle.walk.proofs.Settings.{Leads, Leading, Yielding, byte-in, word-in, start, fit, d-fit}
 use Rattle.walk.proofs.Settings.{set-a, set-b, set-d, set-x, set-y, set-sp, set-pc, set-codes, take-codes}
-use Rattle.walk.proofs.Settings.{quietly, with-byte, with-word, with-frame, frame-stored, if_does_else_}
-use Rattle.walk.proofs.Places.{place, route}
+use Rattle.walk.proofs.Settings.{quietly, with-byte, with-word, with-frame, staying, waiting, if_does_else_}
+use Rattle.walk.proofs.Places.{place, way}
 
-module _ {b : Before} {s : State} (w : Comes b s) where
+module _ {b : Before} {c : ℕ} {s : State} (w : Leads b c s (withClock s c)) where
   -- pushed and pulled: SP falls, or rises
-  push-byte : {v : ℕ} → (Fits b → v < 256) → Gives b (bytePushed s (b .decoded .cost) v)
+  push-byte : {v : ℕ} → (Fits b → v < 256) → Yielding b c s (λ z. bytePushed z (b .decoded .cost) v)
   push-byte h = with-byte (set-sp w (λ k. omega arith)) (λ k. omega arith) h
 
-  push-word : {v : ℕ} → (Fits b → v < 65536) → Gives b (wordPushed s (b .decoded .cost) v)
+  push-word : {v : ℕ} → (Fits b → v < 65536) → Yielding b c s (λ z. wordPushed z (b .decoded .cost) v)
   push-word h = with-word (set-sp w (λ k. omega arith)) (λ k. omega arith) h
 
-  pull : (n : ℕ) → Gives b (pulled s n (b .decoded .cost))
+  pull : (n : ℕ) → Yielding b c s (λ z. pulled z n (b .decoded .cost))
   pull n = quietly (set-sp w (λ k. omega arith))
 
-module _ {b : Before} {s : State} (w : Comes b s) where
-  stacking : (kind : ℕ) → Gives b (stacked kind s (b .memory) (b .decoded .cost))
+module _ {b : Before} {c : ℕ} {s : State} (w : Leads b c s (withClock s c)) where
+  stacking : (kind : ℕ) → Yielding b c s (λ z. stacked kind z (b .memory) (b .decoded .cost))
   unfolding stacked
   stacking kind =
       let byte : Fits b → byteAt (b .memory) (s .sp) < 256 = λ k. byte-in k (s .sp) in
@@ -59,37 +57,34 @@ module _ {b : Before} {s : State} (w : Comes b s) where
       if eqb kind PULY does pull (set-y w word) 2 else
       if eqb kind PULA does pull (set-a w byte) 1 else
       if eqb kind PULB does pull (set-b w byte) 1 else
-      if eqb kind PSHX does push-word w (λ k. held w k .x) else
-      if eqb kind PSHY does push-word w (λ k. held w k .y) else
-      if eqb kind PSHA does push-byte w (λ k. held w k .a) else
-      if eqb kind PSHB does push-byte w (λ k. held w k .b) else
+      if eqb kind PSHX does push-word w (λ k. fit w k .x) else
+      if eqb kind PSHY does push-word w (λ k. fit w k .y) else
+      if eqb kind PSHA does push-byte w (λ k. fit w k .a) else
+      if eqb kind PSHB does push-byte w (λ k. fit w k .b) else
       if eqb kind PULC does pull (take-codes w (never-sets-x (s .flags) (byteAt (b .memory) (s .sp)))) 1 else
       if eqb kind PSHC does push-byte w (λ k. ccr-below (s .flags)) else
       if eqb kind PULD does pull (set-d w word) 2 else
-      push-word w (d-held w)
+      push-word w (d-fit w)
 
   -- a branch that costs the same whether it is taken or not
-  branch : (taken : Bool) (offset : ℕ) → Gives b (branched s taken offset (b .decoded .cost) (b .decoded .cost))
+  branch : (taken : Bool) (offset : ℕ) → Yielding b c s (λ z. branched z taken offset (b .decoded .cost) (b .decoded .cost))
   branch taken offset = if taken does quietly (set-pc w (λ k. omega arith)) else quietly w
 
-  subroutine : {target : ℕ} → (Fits b → target < 65536) → Gives b (subroutineEffect s (b .decoded .cost) target)
+  subroutine : {target : ℕ} → (Fits b → target < 65536) → Yielding b c s (λ z. subroutineEffect z (b .decoded .cost) target)
   unfolding subroutineEffect
-  subroutine h = with-word (set-pc (set-sp w (λ k. omega arith)) h) (λ k. omega arith) (λ k. held w k .pc)
+  subroutine h = with-word (set-pc (set-sp w (λ k. omega arith)) h) (λ k. omega arith) (λ k. fit w k .pc)
 
-  return : Gives b (returnEffect s (b .memory) (b .decoded .cost))
+  return : Yielding b c s (λ z. returnEffect z (b .memory) (b .decoded .cost))
   unfolding returnEffect
   return = quietly (set-pc (set-sp w (λ k. omega arith)) (λ k. word-in k (s .sp)))
 
   -- an entry whose codes have X as it was
   pub interrupt :
-      (vector : ℕ) (after : Flags) → after .x ≡ s .flags .x → Gives b (interruptEffect s (b .memory) vector after (b .decoded .cost))
+      (vector : ℕ) (after : Flags) → after .x ≡ s .flags .x → Yielding b c s (λ z. interruptEffect z (b .memory) vector after (b .decoded .cost))
   unfolding interruptEffect
   interrupt vector after same = with-frame w (set-pc (set-codes (set-sp w (λ k. omega arith)) same) (λ k. word-in k vector))
 
-  wait : Gives b (waitEffect s (b .decoded .cost))
-  wait = waits w (frame-stored w)
-
-  pulling : Comes b (pulledFrame s (b .memory))
+  pulling : Leading b c s (λ z. pulledFrame z (b .memory))
   unfolding pulledFrame
   pulling =
       let codes = never-sets-x (s .flags) (byteAt (b .memory) (s .sp)) in
@@ -101,20 +96,20 @@ module _ {b : Before} {s : State} (w : Comes b s) where
       (λ k. word-in k _))
       (λ k. word-in k _)
 
-module _ {b : Before} {s : State} (w : Comes b s) (kind offset : ℕ) where
-  looping : (counter : ℕ) → Gives b (looped counter s kind offset (b .decoded .cost))
+module _ {b : Before} {c : ℕ} {s : State} (w : Leads b c s (withClock s c)) (kind offset : ℕ) where
+  looping : (counter : ℕ) → Yielding b c s (λ z. looped counter z kind offset (b .decoded .cost))
   unfolding looped
   looping counter =
-      if eqb counter 0 does branch (set-a w (λ k. counted-below 7 kind (s .a) (held w k .a))) (countByte kind (s .a) .taken) offset else
-      if eqb counter 1 does branch (set-b w (λ k. counted-below 7 kind (s .b) (held w k .b))) (countByte kind (s .b) .taken) offset else
-      if eqb counter 4 does branch (set-d w (λ k. counted-below 15 kind (dOf s) (d-held w k))) (countWord kind (dOf s) .taken) offset else
-      if eqb counter 5 does branch (set-x w (λ k. counted-below 15 kind (s .x) (held w k .x))) (countWord kind (s .x) .taken) offset else
-      if eqb counter 6 does branch (set-y w (λ k. counted-below 15 kind (s .y) (held w k .y))) (countWord kind (s .y) .taken) offset else
-      branch (set-sp w (λ k. counted-below 15 kind (s .sp) (held w k .sp))) (countWord kind (s .sp) .taken) offset
+      if eqb counter 0 does branch (set-a w (λ k. counted-below 7 kind (s .a) (fit w k .a))) (countByte kind (s .a) .taken) offset else
+      if eqb counter 1 does branch (set-b w (λ k. counted-below 7 kind (s .b) (fit w k .b))) (countByte kind (s .b) .taken) offset else
+      if eqb counter 4 does branch (set-d w (λ k. counted-below 15 kind (dOf s) (d-fit w k))) (countWord kind (dOf s) .taken) offset else
+      if eqb counter 5 does branch (set-x w (λ k. counted-below 15 kind (s .x) (fit w k .x))) (countWord kind (s .x) .taken) offset else
+      if eqb counter 6 does branch (set-y w (λ k. counted-below 15 kind (s .y) (fit w k .y))) (countWord kind (s .y) .taken) offset else
+      branch (set-sp w (λ k. counted-below 15 kind (s .sp) (fit w k .sp))) (countWord kind (s .sp) .taken) offset
 
 -- what takes the operand's address alone
-module _ {b : Before} {s : State} (w : Comes b s) where
-  addressing : (kind : ℕ) {a : ℕ} → (Fits b → a < 65536) → Gives b (addressed s kind a (b .decoded .cost))
+module _ {b : Before} {c : ℕ} {s : State} (w : Leads b c s (withClock s c)) where
+  addressing : (kind : ℕ) {a : ℕ} → (Fits b → a < 65536) → Yielding b c s (λ z. addressed z kind a (b .decoded .cost))
   unfolding addressed
   addressing kind h =
       if eqb kind LEAY does quietly (set-y w h) else
@@ -125,12 +120,12 @@ module _ {b : Before} {s : State} (w : Comes b s) where
 
   changing-bits :
       (set : Bool) (mask v : ℕ) {a : ℕ} → (Fits b → mask < 256) → (Fits b → v < 256) → (Fits b → a < 65536) →
-      Gives b (bitsChanged s set mask v a (b .decoded .cost))
+      Yielding b c s (λ z. bitsChanged z set mask v a (b .decoded .cost))
   unfolding bitsChanged
   changing-bits true mask v m h g = with-byte (set-codes w refl) g (λ k. or-lt 8 _ _ (h k) (m k))
   changing-bits false mask v m h g = with-byte (set-codes w refl) g (λ k. and-lt 8 _ _ (h k) (omega arith))
 
-  on-bits : (kind : ℕ) {a : ℕ} → (Fits b → a < 65536) → Gives b (bitted s (b .memory) kind a (b .decoded .cost))
+  on-bits : (kind : ℕ) {a : ℕ} → (Fits b → a < 65536) → Yielding b c s (λ z. bitted z (b .memory) kind a (b .decoded .cost))
   unfolding bitted
   on-bits kind {a} h =
       let m = b .memory in
@@ -142,57 +137,61 @@ module _ {b : Before} {s : State} (w : Comes b s) where
       if eqb kind BRSET does branch w (allSet v mask) _ else
       branch w (allClear v mask) _
 
-module _ (s : State) (m : List ℕ) (d : Decoded) where
+module _ (s : State) (m : List ℕ) (d : Decoded) (c : ℕ) where
   abbrev b : Before
   b = before s m d
 
-  pub stack : Gives b (stackEffect s m d)
+  pub stack : Yielding b c s (λ z. stackEffect z m d)
   unfolding stackEffect
-  stack = stacking begins (d .kind)
+  stack = stacking start (d .kind)
 
-  pub short-branch : IsBranch d → Gives b (shortEffect s m d)
+  pub short-branch : IsBranch d → Yielding b c s (λ z. shortEffect z m d)
   unfolding shortEffect
   short-branch is =
-      if conditionOf (s .flags) (memberOf (d .kind)) does quietly (set-pc begins (λ k. omega arith)) else untaken begins is
+      if conditionOf (s .flags) (memberOf (d .kind)) does quietly (set-pc start (λ k. omega arith)) else staying start is
 
-  pub long-branch : IsBranch d → Gives b (longEffect s m d)
+  pub long-branch : IsBranch d → Yielding b c s (λ z. longEffect z m d)
   unfolding longEffect
   long-branch is =
-      if conditionOf (s .flags) (memberOf (d .kind)) does quietly (set-pc begins (λ k. omega arith)) else untaken begins is
+      if conditionOf (s .flags) (memberOf (d .kind)) does quietly (set-pc start (λ k. omega arith)) else staying start is
 
-  loop : Gives b (loopEffect s m d)
+  loop : Yielding b c s (λ z. loopEffect z m d)
   unfolding loopEffect loopDone
-  loop = looping begins (byteAt m (d .at) / 32) _ (byteAt m (d .at) % 8)
+  loop = looping start (byteAt m (d .at) / 32) _ (byteAt m (d .at) % 8)
 
-  pub control : Gives b (controlEffect s m d)
+  pub control : Yielding b c s (λ z. controlEffect z m d)
   unfolding controlEffect
   control =
-      if eqb (d .kind) BSR does subroutine begins (λ k. omega arith) else
-      if eqb (d .kind) RTS does return begins else
-      if eqb (d .kind) RTI does quietly (pulling begins) else
-      if eqb (d .kind) WAI does wait begins else
+      if eqb (d .kind) BSR does subroutine start (λ k. omega arith) else
+      if eqb (d .kind) RTS does return start else
+      if eqb (d .kind) RTI does quietly (pulling start) else
+      if eqb (d .kind) WAI does waiting start else
       loop
 
-  pub address : Gives b (addressEffect s m d)
+  pub address : Yielding b c s (λ z. addressEffect z m d)
   unfolding addressEffect
-  address = addressing (place s m d .state) (d .kind) (place s m d .address)
+  address =
+      let p = place s m d c in
+      rw (p .same) (addressing (p .state) (d .kind) (p .address))
 
-  pub bits : Gives b (bitsEffect s m d)
+  pub bits : Yielding b c s (λ z. bitsEffect z m d)
   unfolding bitsEffect
-  bits = on-bits (place s m d .state) (d .kind) (place s m d .address)
+  bits =
+      let p = place s m d c in
+      rw (p .same) (on-bits (p .state) (d .kind) (p .address))
 
-  move-byte : Gives b (byteMoveEffect s m d)
+  move-byte : Yielding b c s (λ z. byteMoveEffect z m d)
   unfolding byteMoveEffect
   move-byte =
-      let way = route begins (d .at) (d .mode) false in
-      with-byte (way .state) (way .target) (λ k. byte-in k _)
+      let p = way s m d c false in
+      rw (p .same) (with-byte (p .state) (p .target) (λ k. byte-in k _))
 
-  move-word : Gives b (wordMoveEffect s m d)
+  move-word : Yielding b c s (λ z. wordMoveEffect z m d)
   unfolding wordMoveEffect
   move-word =
-      let way = route begins (d .at) (d .mode) true in
-      with-word (way .state) (way .target) (λ k. word-in k _)
+      let p = way s m d c true in
+      rw (p .same) (with-word (p .state) (p .target) (λ k. word-in k _))
 
-  pub move : Gives b (moveEffect s m d)
+  pub move : Yielding b c s (λ z. moveEffect z m d)
   unfolding moveEffect
   move = if eqb (d .kind) MOVB does move-byte else move-word

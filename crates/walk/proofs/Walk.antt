@@ -1,4 +1,5 @@
--- The one walk through every instruction: the list of the groups. On the definitions alone. Assumes nothing.
+-- The one walk through every instruction: the list of the groups. It says which effects an instruction can give, and that it has the
+-- same at every clock. On the definitions alone. Assumes nothing.
 use Prim.Native.Nat.{ℕ}
 use mathlib.Core.Path.{_≡_, refl}
 use mathlib.Core.Bool.{Bool, true, false}
@@ -13,51 +14,59 @@ use Rattle.opcodes.specs.Kind.{REGISTERS, PRODUCTS, STACK, CONTROL, ADDRESSES, 
 use Rattle.decode.specs.declared.Decoded.{Decoded}
 use Rattle.effect.specs.declared.Effect.{Effect}
 use Rattle.turn.specs.Turn.{controlled, withOperand, executed}
-use Rattle.walk.specs.Walk.{Before, before, Gives, EveryInstructionGives}
+use Rattle.walk.specs.Walk.{Before, before, EveryInstructionGives}
 use Rattle.walk.specs.Walk.IsBranch.{short, long}
-use Rattle.walk.specs.Walk.Comes.{begins}
-use Rattle.walk.proofs.Settings.{if_does_else_}
+use Rattle.walk.proofs.Settings.{Yields, Yielding, start, if_does_else_}
 use Rattle.walk.proofs.Execute8.{with-a, with-b, in-memory, in-a, in-b}
 use Rattle.walk.proofs.Execute16.{with-word-operand, store, choose, registers, product, look-up}
 use Rattle.walk.proofs.Flow.{stack, interrupt, short-branch, long-branch, control, address, bits, move}
 
 -- one of two effects, where the first leans on the test that picked it
 infixr 0 if_branches_else_
-if_branches_else_ : {b : Before} (t : Bool) {e e′ : Effect} → (t ≡ true → Gives b e) → Gives b e′ → Gives b (pick t e e′)
+if_branches_else_ :
+    {b : Before} {c : ℕ} (t : Bool) {e e′ f f′ : Effect} →
+    (t ≡ true → Yields b c e f) → Yields b c e′ f′ → Yields b c (pick t e e′) (pick t f f′)
 if_branches_else_ true first other = first refl
 if_branches_else_ false first other = other
 
-control-or-entry : (s : State) (m : List ℕ) (d : Decoded) → Gives (before s m d) (controlled s m d)
-unfolding controlled
-control-or-entry s m d =
-    if eqb (d .kind) SWI does interrupt begins _ (setI (s .flags) true) refl else
-    if eqb (d .kind) TRAP does interrupt begins _ (setI (s .flags) true) refl else
-    control s m d
+module _ (s : State) (m : List ℕ) (d : Decoded) (c : ℕ) where
+  abbrev b : Before
+  b = before s m d
 
-operand-taken : (group : ℕ) (s : State) (m : List ℕ) (d : Decoded) → Gives (before s m d) (withOperand group s m d)
-unfolding withOperand
-operand-taken group s m d =
-    if eqb group WITH-A does with-a s m d else
-    if eqb group WITH-B does with-b s m d else
-    if eqb group WITH-WORD does with-word-operand s m d else
-    if eqb group STORES does store s m d else
-    if eqb group IN-MEMORY does in-memory s m d else
-    if eqb group ADDRESSES does address s m d else
-    if eqb group CHOICES does choose s m d else
-    if eqb group LOOKUPS does look-up s m d else
-    bits s m d
+  control-or-entry : Yielding b c s (λ z. controlled z m d)
+  unfolding controlled
+  control-or-entry =
+      if eqb (d .kind) SWI does interrupt start _ (setI (s .flags) true) refl else
+      if eqb (d .kind) TRAP does interrupt start _ (setI (s .flags) true) refl else
+      control s m d c
+
+  operand-taken : (group : ℕ) → Yielding b c s (λ z. withOperand group z m d)
+  unfolding withOperand
+  operand-taken group =
+      if eqb group WITH-A does with-a s m d c else
+      if eqb group WITH-B does with-b s m d c else
+      if eqb group WITH-WORD does with-word-operand s m d c else
+      if eqb group STORES does store s m d c else
+      if eqb group IN-MEMORY does in-memory s m d c else
+      if eqb group ADDRESSES does address s m d c else
+      if eqb group CHOICES does choose s m d c else
+      if eqb group LOOKUPS does look-up s m d c else
+      bits s m d c
+
+  pub every-instruction : Yielding b c s (λ z. executed z m d)
+  unfolding executed
+  every-instruction =
+      let group = groupOf (d .kind) in
+      if eqb group SHORT-BRANCHES branches (λ e. short-branch s m d c (short (eqb-true group SHORT-BRANCHES e))) else
+      if eqb group LONG-BRANCHES branches (λ e. long-branch s m d c (long (eqb-true group LONG-BRANCHES e))) else
+      if eqb group IN-A does in-a s m d c else
+      if eqb group IN-B does in-b s m d c else
+      if eqb group REGISTERS does registers s m d c else
+      if eqb group PRODUCTS does product s m d c else
+      if eqb group STACK does stack s m d c else
+      if eqb group CONTROL does control-or-entry else
+      if eqb group MOVES does move s m d c else
+      operand-taken group
 
 pub every-instruction-gives : EveryInstructionGives
-unfolding executed
-every-instruction-gives s m d =
-    let group = groupOf (d .kind) in
-    if eqb group SHORT-BRANCHES branches (λ e. short-branch s m d (short (eqb-true group SHORT-BRANCHES e))) else
-    if eqb group LONG-BRANCHES branches (λ e. long-branch s m d (long (eqb-true group LONG-BRANCHES e))) else
-    if eqb group IN-A does in-a s m d else
-    if eqb group IN-B does in-b s m d else
-    if eqb group REGISTERS does registers s m d else
-    if eqb group PRODUCTS does product s m d else
-    if eqb group STACK does stack s m d else
-    if eqb group CONTROL does control-or-entry s m d else
-    if eqb group MOVES does move s m d else
-    operand-taken group s m d
+every-instruction-gives s m d = every-instruction s m d 0 .gives
