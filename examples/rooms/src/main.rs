@@ -4,6 +4,7 @@
 #![cfg_attr(feature = "plain_start", no_main)]
 
 mod account;
+mod mail;
 mod museum;
 mod old;
 mod power;

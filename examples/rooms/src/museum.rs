@@ -1,7 +1,8 @@
 //! What hangs where, by the museum's own book.
 
+use crate::mail::{Answer, Entry};
 use crate::processor::Processor;
-use crate::sign::{Answer, Entry, Sign, CALM, NO_LIST};
+use crate::sign::{Sign, CALM, NO_LIST};
 
 /// The minutes of a day.
 pub const DAY: u32 = 1440;

@@ -1,7 +1,8 @@
 //! The old design: each tier decides for itself when its list is out of date, by a clock of its own.
 
+use crate::mail::Answer;
 use crate::museum::{answer_by, is_open, list_at, List, REHANG, SPRING};
-use crate::sign::{Answer, CYCLES_A_MINUTE};
+use crate::sign::CYCLES_A_MINUTE;
 
 /// The cycles that the guide's processor counts in a minute: its clock is as quick as the sign's.
 const CYCLES: u64 = CYCLES_A_MINUTE as u64;

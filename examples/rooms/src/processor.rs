@@ -37,13 +37,12 @@ pub struct Proved(Machine);
 impl Proved {
     /// The state record, to be kept.
     pub fn record(&self) -> [u8; doors::STATE] {
-        self.0.state().to_record()
+        *self.0.record()
     }
 
     /// The machine of which this record was kept.
     pub fn of_record(record: &[u8]) -> Proved {
-        let record = record.try_into().expect("the record has its length");
-        Proved(Machine::new(State::of_record(record)))
+        Proved(Machine::of_record(record).expect("a machine had this record"))
     }
 
     fn ended(reply: Result<u32, Error>) -> Ended {

@@ -1,9 +1,9 @@
 //! The sign: its firmware image in a processor, and the questions that it understands.
 
+use crate::mail::{self, Answer, Entry, Question};
 use crate::museum::{List, DAY};
 use crate::processor::{Ended, Processor, Proved, Seen};
 use cpu12::{doors, Record};
-use std::fmt;
 use std::ops::Range;
 
 /// The firmware, as the sign on the gallery door has it.
@@ -25,25 +25,6 @@ const QUESTION: u8 = 8;
 /// The mask bit X of the condition codes. Once clear, only the entry of an XIRQ sets it.
 const X_MASK: u8 = 0x40;
 
-/// The questions that the firmware knows.
-#[derive(Clone, Copy)]
-enum Question {
-    Picture = 1,
-    Draft = 2,
-    Hang = 3,
-    Status = 4,
-    SetTime = 5,
-}
-
-/// The places in the mailbox. Its last six bytes are an entry, as in the list.
-const REQUEST: usize = 0;
-const ANSWER: usize = 1;
-const SLOT: usize = 2;
-const SEASON: usize = 3;
-const ENTRY: usize = 4;
-const UNTIL: usize = 6;
-const MAIL_LENGTH: usize = 10;
-
 /// The number that a sign without a list gives as that of its list.
 pub const NO_LIST: u8 = 0;
 
@@ -55,45 +36,6 @@ const STARTING: u32 = 700;
 const COUNTING: u32 = 80;
 const ANSWERING: u32 = 160;
 const SAVING: u32 = 1000;
-
-/// An entry of a list: in this room hangs this picture, up to but not including this minute.
-#[derive(Clone, Copy, Default, PartialEq, Eq, Debug)]
-pub struct Entry {
-    pub room: u8,
-    pub picture: u8,
-    pub until: u32,
-}
-
-impl Entry {
-    /// As in the list and in the mailbox: room, picture, and the minute with its highest byte first.
-    fn to_bytes(self) -> [u8; 6] {
-        let [a, b, c, d] = self.until.to_be_bytes();
-        [self.room, self.picture, a, b, c, d]
-    }
-
-    fn of_bytes(bytes: &[u8]) -> Entry {
-        let until = u32::from_be_bytes([bytes[2], bytes[3], bytes[4], bytes[5]]);
-        Entry { room: bytes[0], picture: bytes[1], until }
-    }
-}
-
-/// What the firmware says of a room.
-#[derive(Clone, Copy, PartialEq, Eq, Debug)]
-pub enum Answer {
-    Hangs(Entry),
-    OutOfDate,
-    NoSuchRoom,
-}
-
-impl fmt::Display for Answer {
-    fn fmt(&self, f: &mut fmt::Formatter) -> fmt::Result {
-        match self {
-            Answer::Hangs(entry) => write!(f, "picture {}", entry.picture),
-            Answer::OutOfDate => f.write_str("out of date"),
-            Answer::NoSuchRoom => f.write_str("no such room"),
-        }
-    }
-}
 
 /// The power warning came, the firmware saved its list and the machine stopped. Both numbers are cycles after the warning.
 #[derive(Clone, Copy, Debug)]
@@ -223,7 +165,7 @@ impl<P: Processor> Sign<P> {
     pub fn picture(&mut self, room: u8) -> Result<Answer, Warned> {
         let entry = Entry { room, ..Entry::default() };
         Ok(match self.ask(Question::Picture, 0, 0, entry)? {
-            0 => Answer::Hangs(Entry::of_bytes(&self.mail()[ENTRY..])),
+            0 => Answer::Hangs(Entry::of_bytes(&self.mail()[mail::ENTRY..])),
             1 => Answer::OutOfDate,
             2 => Answer::NoSuchRoom,
             other => panic!("the firmware answered {}", other),
@@ -234,8 +176,8 @@ impl<P: Processor> Sign<P> {
     pub fn status(&mut self) -> Result<(u8, u32), Warned> {
         self.order(Question::Status, 0, 0, Entry::default())?;
         let mail = self.mail();
-        let time = mail[UNTIL..].try_into().expect("the mailbox ends with four bytes of time");
-        Ok((mail[SEASON], u32::from_be_bytes(time)))
+        let time = Entry::of_bytes(&mail[mail::ENTRY..]).until;
+        Ok((mail[mail::SEASON], time))
     }
 
     /// Writes a new list, entry by entry, and then puts it in use.
@@ -288,13 +230,13 @@ impl<P: Processor> Sign<P> {
         entry: Entry,
     ) -> Result<u8, Warned> {
         let mail = &mut self.memory[mailbox()];
-        mail[REQUEST] = question as u8;
-        mail[SLOT] = slot;
-        mail[SEASON] = season;
-        mail[ENTRY..].copy_from_slice(&entry.to_bytes());
+        mail[mail::REQUEST] = question as u8;
+        mail[mail::SLOT] = slot;
+        mail[mail::SEASON] = season;
+        mail[mail::ENTRY..].copy_from_slice(&entry.to_bytes());
         self.signal(QUESTION, ANSWERING)?;
-        assert_eq!(self.mail()[REQUEST], 0, "the firmware did not answer");
-        Ok(self.mail()[ANSWER])
+        assert_eq!(self.mail()[mail::REQUEST], 0, "the firmware did not answer");
+        Ok(self.mail()[mail::ANSWER])
     }
 
     fn mail(&self) -> &[u8] {
@@ -381,7 +323,7 @@ fn word_of_directory(index: usize) -> usize {
 }
 
 fn mailbox() -> Range<usize> {
-    word_of_directory(0)..word_of_directory(0) + MAIL_LENGTH
+    word_of_directory(0)..word_of_directory(0) + mail::LENGTH
 }
 
 fn saved_blocks() -> Range<usize> {

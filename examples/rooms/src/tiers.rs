@@ -1,8 +1,9 @@
 //! The two tiers of the guide. Each has the firmware and decides nothing itself.
 
+use crate::mail::Answer;
 use crate::museum::list_at;
 use crate::processor::{Processor, Proved, Second};
-use crate::sign::{Answer, Sign, CALM};
+use crate::sign::{Sign, CALM};
 use std::fs;
 use std::io;
 use std::path::PathBuf;

@@ -179,7 +179,7 @@ fn tell_of_hold_up(out: &mut impl Write, cycles: u32) -> io::Result<()> {
     )?;
     writeln!(
         out,
-        "  The supply has to hold for {} microseconds, or {} cycles: the margin is {:.1} microseconds.",
+        "  The supply has to hold for {} microseconds, or {} cycles: that is a margin of {:.1} microseconds.",
         HOLD_UP,
         HOLD_UP * CYCLES_A_MICROSECOND,
         f64::from(HOLD_UP) - saving
@@ -203,7 +203,7 @@ fn tell_of_empty_sign(out: &mut impl Write, trial: &Found<Trial>) -> io::Result<
     )?;
     writeln!(
         out,
-        "  With both spoilt, it came up empty at minute 0 {} times, and called its list out of date.",
+        "  With both spoilt, it came up {} times with no rooms at minute 0, and called its list out of date.",
         spoilt.empty
     )?;
     writeln!(out, "  It was told the time and given a list through its mailbox.")?;
