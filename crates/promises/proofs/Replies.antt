@@ -119,7 +119,7 @@ step-gives-zero s m line bytes =
     (λ p. (p .0, p .1 .0, p .1 .1), λ p. (p .0, (p .1, p .2)))
 
 -- two neighbours that do not rise
-abbrev Falls : List ℕ → Type 0
+abbrev pub Falls : List ℕ → Type 0
 Falls cs = (k : ℕ) × (suc k < length cs) × (getD cs (suc k) 0 ≤ getD cs k 0)
 
 -- one of two is false
@@ -137,7 +137,7 @@ falling-after c (d ∷ ds) e = go (ltb c d) refl e (falling-after d ds)
     go false is f rest = (0, omega arith, ltb-false c d is)
     go true is f rest = let at = rest f in (suc (at .0), omega (arith, at .1), at .2)
 
-falling : (cs : List ℕ) → rising cs ≡ false → Falls cs
+pub falling : (cs : List ℕ) → rising cs ≡ false → Falls cs
 unfolding rising
 falling [] e = absurd (true≢false e)
 falling (c ∷ cs) e = falling-after c cs e
