@@ -151,3 +151,14 @@ AReplayHasOneEnd =
     room ≤ room′ →
     (e .reply ≡ 0 → room ≡ room′) →
     e ≡ e′
+
+-- And it comes to its end: a run of a replay that may spend 13 cycles or more, and ends with 0, has taken a step.
+abbrev pub NoPartStandsStill : Type 0
+NoPartStandsStill =
+    (s : State) (m : List ℕ) (given given′ : Given) (amount budget : ℕ) →
+    Words s →
+    AreBytes m →
+    StandsFor amount s m given given′ budget →
+    13 ≤ budget →
+    standIn amount s m given′ budget .reply ≡ 0 →
+    1 ≤ standIn amount s m given′ budget .cycles
