@@ -1,5 +1,5 @@
--- Schedules set back, and cut off after a clock value: the line bytes in force are the same, and they are accepted. On the definitions
--- alone. Assumes nothing.
+-- Schedules set back, in both forms, and cut off after a clock value: the line bytes in force are the same, and they are accepted. On the
+-- definitions alone. Assumes nothing.
 use Prim.Native.Nat.{ℕ, zero, suc, _+_, _-_, _<_, _≤_, min}
 use native.Mathlib.Omega.{arith}
 use native.Mathlib.Decide.{decLt}
@@ -16,9 +16,9 @@ use Rattle.schedule.proofs.Laws.{passed-on, accepted-same, accepted-rising, ris
 use Rattle.refusals.specs.Given.{Given, lineIn}
 use Rattle.promises.specs.Replies.{BadSchedule}
 use Rattle.promises.specs.Replies.BadSchedule.{long, falls, uneven}
-use Rattle.promises.specs.SetBack.{gone, setBack, SameLines, upTo, handed}
+use Rattle.promises.specs.SetBack.{gone, setBack, SameLines, upTo, restated, handed}
 use Rattle.promises.proofs.Replies.{good-schedule}
-use Rattle.promises.proofs.InForce.{Rises, rises, earlier}
+use Rattle.promises.proofs.InForce.{Rises, rises, rising-so, earlier}
 
 -- a record is at or before a clock value, and is so with the amount taken off both
 test-back : (amount c t : ℕ) → amount ≤ t → leb (c - amount) (t - amount) ≡ leb c t
@@ -87,6 +87,48 @@ line-back given amount t same h =
         let is : gone amount given ≡ 0 = omega (arith, none) in
         ap (λ (g : ℕ). inForce 0 (drop g (given .cycles)) (drop g (given .lines)) t) is
 
+-- the records after the amount count from the line byte that is in force there
+split-there :
+    (before : ℕ) (cs ls : List ℕ) (amount t : ℕ) → rising cs ≡ true → amount ≤ t →
+    inForce (inForce before cs ls amount) (drop (passed cs amount) cs) (drop (passed cs amount) ls) t ≡ inForce before cs ls t
+unfolding rising inForce passed
+split-there before [] ls amount t up h = refl
+split-there before (c ∷ cs) [] amount t up h = go (leb c amount)
+  where
+    go : (due : Bool) → inForce before (drop (pick due (suc (passed cs amount)) 0) (c ∷ cs)) (drop (pick due (suc (passed cs amount)) 0) []) t ≡ before
+    go true = none (drop (passed cs amount) cs)
+      where
+        none : (ds : List ℕ) → inForce before ds [] t ≡ before
+        none [] = refl
+        none (d ∷ ds) = refl
+    go false = refl
+split-there before (c ∷ cs) (l ∷ ls) amount t up h = go (leb c amount) refl (split-there l cs ls amount t (rising-rest c cs up) h)
+  where
+    go :
+        (due : Bool) →
+        leb c amount ≡ due →
+        inForce (inForce l cs ls amount) (drop (passed cs amount) cs) (drop (passed cs amount) ls) t ≡ inForce l cs ls t →
+        inForce (inForce (pick due l before) cs ls amount) (drop (pick due (suc (passed cs amount)) 0) (c ∷ cs))
+        (drop (pick due (suc (passed cs amount)) 0) (l ∷ ls)) t
+        ≡ inForce (pick (leb c t) l before) cs ls t
+    go true e rest = let low = leb-true c amount e in rw (le-leb c t (omega (arith, low, h))) rest
+    go false e rest =
+        let after = leb-false c amount e in
+        ap (λ (b : ℕ). inForce b (c ∷ cs) (l ∷ ls) t) (not-yet before c cs ls amount up after)
+
+-- so the line byte in force is that of the schedule with it restated
+line-restated :
+    (given : Given) (amount t : ℕ) → rising (given .cycles) ≡ true → amount ≤ t →
+    lineIn (restated amount given) (t - amount) ≡ lineIn given t
+unfolding inForce
+line-restated given amount t up h =
+    let past = passed (given .cycles) amount in
+    ap
+    (λ (b : Bool). inForce (pick b (lineIn given amount) 0) (map (λ c. c - amount) (drop past (given .cycles))) (drop past (given .lines)) (t - amount))
+    (le-leb 0 (t - amount) (omega arith))
+    ∙ taken-off amount (lineIn given amount) (drop past (given .cycles)) (drop past (given .lines)) t h
+    ∙ split-there 0 (given .cycles) (given .lines) amount t up h
+
 -- the records up to a clock value have the line bytes up to there
 cut-off :
     (before : ℕ) (cs ls : List ℕ) (to t : ℕ) → rising cs ≡ true → t ≤ to →
@@ -115,71 +157,81 @@ cut-off before (c ∷ cs) (l ∷ ls) to t up h =
         let after = leb-false c to e in
         rw (lt-leb c t (omega (arith, after, h))) (sym (not-yet before c cs ls t up (omega (arith, after, h))))
 
--- what is left of a schedule that is set back: its length, its cycle numbers, and that they rise
-module _ (given : Given) (amount : ℕ) (up : Rises (given .cycles)) (same : length (given .cycles) ≡ length (given .lines)) where
-  abbrev g : ℕ
-  g = gone amount given
+-- what is left of cycle numbers that are set back, without the first g of them: how many, which, and that they rise
+module _ (cs : List ℕ) (amount : ℕ) where
+  abbrev back : ℕ → List ℕ
+  back g = map (λ c. c - amount) (drop g cs)
 
-  abbrev back : List ℕ
-  back = setBack amount given .cycles
+  back-length : (g : ℕ) → length (back g) ≡ length cs - g
+  back-length g = length-map (drop g cs) (λ c. c - amount) ∙ length-drop g cs
 
-  abbrev cycle : ℕ → ℕ
-  cycle k = getD (given .cycles) k 0
+  back-even : (g : ℕ) (ls : List ℕ) → length cs ≡ length ls → length (back g) ≡ length (drop g ls)
+  back-even g ls same = back-length g ∙ ap (λ (n : ℕ). n - g) same ∙ sym (length-drop g ls)
 
-  back-length : length back ≡ length (given .cycles) - g
-  back-length = length-map (drop g (given .cycles)) (λ c. c - amount) ∙ length-drop g (given .cycles)
-
-  cycle-back : (k : ℕ) → getD back k 0 ≡ cycle (g + k) - amount
-  cycle-back k =
+  cycle-back : (g k : ℕ) → getD (back g) k 0 ≡ getD cs (g + k) 0 - amount
+  cycle-back g k =
       let none : 0 ≡ 0 - amount = omega arith in
-      ap (λ (d : ℕ). getD back k d) none
-      ∙ List·getD-map (λ c. c - amount) (drop g (given .cycles)) k 0
-      ∙ ap (λ (c : ℕ). c - amount) (getD-drop g (given .cycles) k 0)
+      ap (λ (d : ℕ). getD (back g) k d) none
+      ∙ List·getD-map (λ c. c - amount) (drop g cs) k 0
+      ∙ ap (λ (c : ℕ). c - amount) (getD-drop g cs k 0)
 
   -- the records that were not passed are after the amount
-  not-passed : (k : ℕ) → passed (given .cycles) amount ≤ k → k < length (given .cycles) → amount < cycle k
-  not-passed k low inside = go (decLt amount (cycle first))
+  not-passed : Rises cs → (k : ℕ) → passed cs amount ≤ k → k < length cs → amount < getD cs k 0
+  not-passed up k low inside = go (decLt amount (getD cs first 0))
     where
       first : ℕ
-      first = passed (given .cycles) amount
+      first = passed cs amount
 
-      go : Dec (amount < cycle (passed (given .cycles) amount)) → amount < cycle k
-      go (yes l) = let rest = earlier (given .cycles) up (k - first) first k (omega (arith, low)) inside in omega (arith, l, rest)
+      go : Dec (amount < getD cs (passed cs amount) 0) → amount < getD cs k 0
+      go (yes l) = let rest = earlier cs up (k - first) first k (omega (arith, low)) inside in omega (arith, l, rest)
       go (no l) =
-          let more = passed-on (given .cycles) amount first (omega arith) (omega (arith, low, inside)) (omega (arith, l)) in
+          let more = passed-on cs amount first (omega arith) (omega (arith, low, inside)) (omega (arith, l)) in
           absurd (omega (arith, more))
 
-  -- so it is accepted where there are not too many of them
-  accepted-back : length back ≤ 64 → BadSchedule (setBack amount given) → ⊥
-  accepted-back few (long h) = omega (arith, few, h)
-  accepted-back few (uneven other) = other (back-length ∙ ap (λ (n : ℕ). n - g) same ∙ sym (length-drop g (given .lines)))
-  accepted-back few (falls k inside down) =
-      let there : suc (g + k) < length (given .cycles) = omega (arith, inside, back-length) in
+  back-rises : Rises cs → (g : ℕ) → passed cs amount ≤ suc g → Rises (back g)
+  back-rises up g most k inside =
+      let there : suc (g + k) < length cs = omega (arith, inside, back-length g) in
       let is : g + suc k ≡ suc (g + k) = omega arith in
-      let next = cycle-back (suc k) ∙ ap (λ (i : ℕ). cycle i - amount) is in
+      let next = cycle-back g (suc k) ∙ ap (λ (i : ℕ). getD cs i 0 - amount) is in
       let rise = up (g + k) there in
-      let past = not-passed (suc (g + k)) (omega arith) there in
-      omega (arith, down, cycle-back k, next, rise, past)
+      let past = not-passed up (suc (g + k)) (omega (arith, most)) there in
+      omega (arith, cycle-back g k, next, rise, past)
 
 -- a schedule that was accepted is so when it is set back, and has the same line bytes in force
 module _ (given : Given) (amount : ℕ) (good : BadSchedule given → ⊥) where
-  same-length : length (given .cycles) ≡ length (given .lines)
-  same-length = accepted-same 64 (given .cycles) (given .lines) (good-schedule given .1 good)
+  same : length (given .cycles) ≡ length (given .lines)
+  same = accepted-same 64 (given .cycles) (given .lines) (good-schedule given .1 good)
 
   up : Rises (given .cycles)
   up = rises (given .cycles) (accepted-rising 64 (given .cycles) (given .lines) (good-schedule given .1 good))
 
   pub good-back : BadSchedule (setBack amount given) → ⊥
-  good-back = accepted-back given amount up same-length (go (decLt 64 (length (given .cycles))))
-    where
-      go : Dec (64 < length (given .cycles)) → length (setBack amount given .cycles) ≤ 64
-      go (yes l) = absurd (good (long l))
-      go (no l) = let is = back-length given amount up same-length in omega (arith, l, is)
+  good-back (long h) = good (long (omega (arith, h, back-length (given .cycles) amount (gone amount given))))
+  good-back (uneven other) = other (back-even (given .cycles) amount (gone amount given) (given .lines) same)
+  good-back (falls k inside down) =
+      let rise = back-rises (given .cycles) amount up (gone amount given) (omega arith) k inside in
+      omega (arith, down, rise)
 
   pub lines-back : (from to : ℕ) → amount ≤ from → SameLines amount given (setBack amount given) from to
-  lines-back from to back t low high = line-back given amount t same-length (omega (arith, low, back))
+  lines-back from to back t low high = line-back given amount t same (omega (arith, low, back))
 
--- and so is what is handed to a run
+-- so is one with the line byte in force restated, where it is not too long
+good-restated :
+    (given : Given) (amount : ℕ) → Rises (given .cycles) → length (given .cycles) ≡ length (given .lines) →
+    length (restated amount given .cycles) ≤ 64 → BadSchedule (restated amount given) → ⊥
+good-restated given amount up same few (long h) = omega (arith, few, h)
+good-restated given amount up same few (uneven other) =
+    other (ap suc (back-even (given .cycles) amount (passed (given .cycles) amount) (given .lines) same))
+good-restated given amount up same few (falls zero inside down) =
+    let past = passed (given .cycles) amount in
+    let there : past + 0 < length (given .cycles) = omega (arith, inside, back-length (given .cycles) amount past) in
+    let after = not-passed (given .cycles) amount up (past + 0) (omega arith) there in
+    omega (arith, down, cycle-back (given .cycles) amount past 0, after)
+good-restated given amount up same few (falls (suc k) inside down) =
+    let rise = back-rises (given .cycles) amount up (passed (given .cycles) amount) (omega arith) k (omega (arith, inside)) in
+    omega (arith, down, rise)
+
+-- and what is handed to a run
 module _
     (given : Given) (amount to : ℕ) (up : rising (given .cycles) ≡ true) (same : length (given .cycles) ≡ length (given .lines))
   where
@@ -199,9 +251,9 @@ module _
         (rises (given .cycles) up k (omega (arith, inside, is)))
 
     pub good-handed : length (handed amount to given .cycles) ≤ 64 → BadSchedule (handed amount to given) → ⊥
-    good-handed = accepted-back cut amount cut-rises cut-length
+    good-handed = good-restated cut amount cut-rises cut-length
 
     pub lines-handed : (from : ℕ) → amount ≤ from → SameLines amount given (handed amount to given) from to
     lines-handed from back t low high =
-        line-back cut amount t cut-length (omega (arith, low, back))
+        line-restated cut amount t (rising-so (cut .cycles) cut-rises) (omega (arith, low, back))
         ∙ cut-off 0 (given .cycles) (given .lines) to t up (omega (arith, high))

@@ -3,7 +3,7 @@ use Prim.Native.Nat.{ℕ, zero, suc, _+_, _-_, _<_, _≤_}
 use native.Mathlib.Omega.{arith}
 use native.Mathlib.Decide.{decLt}
 use mathlib.Core.Path.{_≡_, refl, sym, _∙_, ap}
-use mathlib.Core.Bool.{true, true≢false}
+use mathlib.Core.Bool.{Bool, true, false, true≢false}
 use mathlib.Core.List.{List}
 use lib.ListN.{length, getD}
 use Rattle.schedule.specs.Schedule.{rising, accepted, passed, lineBefore}
@@ -11,7 +11,7 @@ use Rattle.schedule.proofs.Laws.{passed-inside, passed-here, passed-on, accepte
 use Rattle.refusals.specs.Given.{Given, lineIn}
 use Rattle.promises.specs.Replies.{BadSchedule}
 use Rattle.promises.specs.Plain.{InForceAt, EveryLineByte}
-use Rattle.promises.proofs.Replies.{fallen, good-schedule}
+use Rattle.promises.proofs.Replies.{falling, fallen, good-schedule}
 
 -- each record is after the one before it, and so after every earlier one
 abbrev pub Rises : List ℕ → Type 0
@@ -23,6 +23,16 @@ rises cs up k h = go (decLt (getD cs k 0) (getD cs (suc k) 0))
     go : Dec (getD cs k 0 < getD cs (suc k) 0) → getD cs k 0 < getD cs (suc k) 0
     go (yes l) = l
     go (no l) = absurd (true≢false (sym up ∙ fallen cs k h (omega (arith, l))))
+
+pub rising-so : (cs : List ℕ) → Rises cs → rising cs ≡ true
+rising-so cs up = go (rising cs) refl
+  where
+    go : (b : Bool) → rising cs ≡ b → b ≡ true
+    go true e = refl
+    go false e =
+        let at = falling cs e in
+        let rise = up (at .0) (at .1) in
+        absurd (omega (arith, rise, at .2))
 
 pub earlier : (cs : List ℕ) → Rises cs → (d i k : ℕ) → i + d ≡ k → k < length cs → getD cs i 0 ≤ getD cs k 0
 earlier cs up zero i k e h =

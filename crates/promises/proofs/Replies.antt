@@ -26,13 +26,11 @@ use Rattle.run.specs.Step.{stepOf}
 use Rattle.run.specs.Run.{runOf}
 use Rattle.run.proofs.Refusals.{step-refused, step-taken, run-refused, run-taken}
 use Rattle.walk.specs.Words.{Words}
-use Rattle.promises.specs.Steps.{afterSteps}
 use Rattle.promises.specs.Replies.{StepAccepted, BadSchedule, RunAccepted, StopsAtEnd, IsReservedAtEnd, CostsMoreThanLeft}
 use Rattle.promises.specs.Replies.BadSchedule.{long, falls, uneven}
 use Rattle.promises.specs.Replies.{ResetGivesZero, ResetGivesOne, StepGivesOne, StepGivesThree, StepGivesFour, StepGivesFive, StepGivesZero}
 use Rattle.promises.specs.Replies.{RunGivesOne, RunGivesTwo, RunGivesThree, RunGivesFour, RunGivesFive, RunGivesZero}
-use Rattle.promises.proofs.Words.{every-boundary-has-words}
-use Rattle.promises.proofs.Steps.{a-run-is-its-steps, within-the-budget}
+use Rattle.promises.proofs.Steps.{a-run-is-its-steps, words-after, within-the-budget}
 use Rattle.promises.proofs.Always.{refusal-most}
 use Rattle.promises.proofs.Costs.{a-step-costs-what-is-tabled}
 use Rattle.promises.proofs.Exactly.{then, each, denied, affirmed, unless, either, above, here, later, picked}
@@ -119,7 +117,7 @@ step-gives-zero s m line bytes =
     (λ p. (p .0, p .1 .0, p .1 .1), λ p. (p .0, (p .1, p .2)))
 
 -- two neighbours that do not rise
-abbrev Falls : List ℕ → Type 0
+abbrev pub Falls : List ℕ → Type 0
 Falls cs = (k : ℕ) × (suc k < length cs) × (getD cs (suc k) 0 ≤ getD cs k 0)
 
 -- one of two is false
@@ -137,7 +135,7 @@ falling-after c (d ∷ ds) e = go (ltb c d) refl e (falling-after d ds)
     go false is f rest = (0, omega arith, ltb-false c d is)
     go true is f rest = let at = rest f in (suc (at .0), omega (arith, at .1), at .2)
 
-falling : (cs : List ℕ) → rising cs ≡ false → Falls cs
+pub falling : (cs : List ℕ) → rising cs ≡ false → Falls cs
 unfolding rising
 falling [] e = absurd (true≢false e)
 falling (c ∷ cs) e = falling-after c cs e
@@ -245,14 +243,6 @@ run-accepted s m given budget = (
   λ a. free-enough {s = s} {m = m} {given = given} {budget = budget} (record { whole = a .memory; good = good-schedule given .1 (a .schedule); small = a .spends; near = a .clock }),
 )
 
--- a memory of bytes is one at every boundary
-bytes-at : (n : ℕ) (s : State) (m : List ℕ) (given : Given) → Words s → AreBytes m → AreBytes (afterSteps n given s m .memory)
-unfolding afterSteps
-bytes-at zero s m given w bytes = bytes
-bytes-at (suc n) s m given w bytes =
-    let next = every-boundary-has-words s m (lineIn given (s .clock)) w bytes in
-    bytes-at n (nextState given s m) (nextMemory given s m) given (next .0) (next .1)
-
 -- the boundary where a run ended
 module _ (s : State) (m : List ℕ) (given : Given) (budget : ℕ) (w : Words s) (bytes : AreBytes m) where
   abbrev end : End
@@ -268,7 +258,7 @@ module _ (s : State) (m : List ℕ) (given : Given) (budget : ℕ) (w : Words s)
       go : Dec (runRefusal s m given budget ≡ 0) → AreBytes (runOf s m given budget .memory)
       go (yes free) =
           let is = a-run-is-its-steps s m given budget w bytes free in
-          rw (is .1 .memory) (bytes-at (is .0) s m given w bytes)
+          rw (is .1 .memory) (words-after (is .0) s m given w bytes .1)
       go (no held) = rw (run-refused s m given budget held) bytes
 
   -- and the run, where it is not refused, has the reply of the turn there

@@ -2,26 +2,28 @@
 use Prim.Native.Nat.{ℕ, zero, suc, _+_, _-_, _<_, _≤_}
 use native.Mathlib.Omega.{arith}
 use native.Mathlib.Decide.{decLt, ℕ-discrete}
-use mathlib.Core.Path.{_≡_, refl, sym, _∙_, ap}
+use mathlib.Core.Path.{_≡_, sym, _∙_, ap}
 use mathlib.Core.List.{List}
 use Rattle.state.specs.declared.State.{State}
 use Rattle.state.specs.State.{withClock}
-use Rattle.memory.specs.Memory.{committed}
+use Rattle.memory.specs.Memory.{committed, AreBytes}
 use Rattle.machine.specs.Names.{numberOf}
+use Rattle.machine.proofs.Laws.{number-zero}
 use Rattle.turn.specs.declared.Turn.{Turn}
 use Rattle.turn.specs.Turn.{turnIs, turnOf}
 use Rattle.walk.specs.Clock.{atClock}
 use Rattle.walk.proofs.Clock.{no-turn-reads-the-clock}
+use Rattle.walk.proofs.Bounds.{every-step-costs}
 use Rattle.refusals.specs.Given.{Given, lineIn}
 use Rattle.steps.specs.End.{End, endIs, endsHere, after}
 use Rattle.steps.specs.Steps.{goesOn, turnAt, nextState, nextMemory}
 use Rattle.steps.proofs.Loop.{run-stops, run-spends, run-steps, run-over}
 use Rattle.run.proofs.Refusals.{run-taken}
 use Rattle.promises.specs.SetBack.{earlier, endEarlier, endLater, SameLines, StandsFor, standIn, OnlyTheLinesInForceCount, AStandInIsItsSteps}
-use Rattle.promises.specs.SetBack.{setBack, TheClockMayBeSetBack, handed, WhatIsHandedWillDo, AReplayIsItsSteps, AReplayHasOneEnd}
+use Rattle.promises.specs.SetBack.{setBack, TheClockMayBeSetBack, handed, WhatIsHandedWillDo, AReplayIsItsSteps, AReplayHasOneEnd, NoPartStandsStill}
 use Rattle.promises.specs.SetBack.Replay.{one-part, one-more-part}
 use Rattle.promises.specs.Steps.{afterSteps, IsOfSteps}
-use Rattle.promises.proofs.Steps.{takes-steps, keeps, and-then}
+use Rattle.promises.proofs.Steps.{takes-steps, words-after, keeps, and-then}
 use Rattle.promises.proofs.Boundaries.{one-on}
 use Rattle.promises.proofs.Replies.{run-accepted}
 use Rattle.promises.proofs.Handed.{good-back, lines-back, good-handed, lines-handed}
@@ -175,6 +177,16 @@ a-replay-has-one-end s m given room room′ e e′ w bytes parts others most end
     let one = a-replay-is-its-steps s m given room e w bytes parts in
     let two = a-replay-is-its-steps s m given room′ e′ w bytes others in
     one-end (one .0) (two .0) s m given room room′ e e′ (one .1) (two .1) most ended
+
+pub no-part-stands-still : NoPartStandsStill
+no-part-stands-still s m given given′ amount budget w bytes stands enough reply =
+    let e = standIn amount s m given′ budget in
+    let is = a-stand-in-is-its-steps s m given given′ amount budget w bytes stands in
+    let held : AreBytes (e .memory) = rw (is .1 .memory) (words-after (is .0) s m given w bytes .1) in
+    let done = number-zero _ (sym (is .1 .reply) ∙ reply) in
+    let cost = every-step-costs (e .state) (e .memory) (lineIn given (e .state .clock)) held done .1 in
+    let spent = is .1 .spent reply in
+    omega (arith, enough, spent, cost)
 
 -- the clock and the schedule set back together
 pub the-clock-may-be-set-back : TheClockMayBeSetBack

@@ -138,7 +138,7 @@ later (suc n) k s m given =
     ∙ after-twice (turnAt given s m .effect .cost) _ _
 
 -- registers of bytes and words, and a memory of bytes, after any number of steps
-words-after :
+pub words-after :
     (n : ℕ) (s : State) (m : List ℕ) (given : Given) →
     Words s →
     AreBytes m →

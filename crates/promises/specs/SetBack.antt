@@ -3,7 +3,7 @@
 use Prim.Native.Nat.{ℕ, _+_, _-_, _≤_}
 use mathlib.Core.Path.{_≡_}
 use mathlib.Core.Bool.{true}
-use mathlib.Core.List.{List, map}
+use mathlib.Core.List.{List, _∷_, map}
 use lib.ListN.{length, take, drop}
 use Rattle.memory.specs.Memory.{AreBytes}
 use Rattle.state.specs.declared.State.{State}
@@ -90,12 +90,18 @@ upTo to given =
     let some = passed (given .cycles) to in
     givenIs (take some (given .cycles)) (take some (given .lines))
 
--- What may be handed to a run: the records up to the last clock value that it may come to, set back. They are the last one at or before
--- the amount, which then stands at 0, and those after it up to that clock value.
-abbrev pub handed : ℕ → ℕ → Given → Given
-handed amount to given = setBack amount (upTo to given)
+-- The schedule set back once more, as it is most easily made: the line byte in force at the amount is restated at 0, and the records after
+-- the amount follow, each less by it.
+abbrev pub restated : ℕ → Given → Given
+restated amount given =
+    let past = passed (given .cycles) amount in
+    givenIs (0 ∷ map (λ c. c - amount) (drop past (given .cycles))) (lineIn given amount ∷ drop past (given .lines))
 
--- They will do, where they are at most 64 and the run keeps to its other limits: whatever the clock of s is, and however long the
+-- What may be handed to a run: so much of this as it may come to.
+abbrev pub handed : ℕ → ℕ → Given → Given
+handed amount to given = restated amount (upTo to given)
+
+-- It will do, where it is at most 64 records and the run keeps to its other limits: whatever the clock of s is, and however long the
 -- schedule, of which only this is asked, that its cycle numbers rise and that it has a line byte for each.
 abbrev pub WhatIsHandedWillDo : Type 0
 WhatIsHandedWillDo =
@@ -145,3 +151,14 @@ AReplayHasOneEnd =
     room ≤ room′ →
     (e .reply ≡ 0 → room ≡ room′) →
     e ≡ e′
+
+-- And it comes to its end: a run of a replay that may spend 13 cycles or more, and ends with 0, has taken a step.
+abbrev pub NoPartStandsStill : Type 0
+NoPartStandsStill =
+    (s : State) (m : List ℕ) (given given′ : Given) (amount budget : ℕ) →
+    Words s →
+    AreBytes m →
+    StandsFor amount s m given given′ budget →
+    13 ≤ budget →
+    standIn amount s m given′ budget .reply ≡ 0 →
+    1 ≤ standIn amount s m given′ budget .cycles

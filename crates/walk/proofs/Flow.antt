@@ -23,7 +23,7 @@ use Rattle.opcodes.specs.Kind.{BSR, RTS, RTI, WAI, LEAY, LEAX, LEAS, JMP, BSET,
 use Rattle.decode.specs.declared.Decoded.{Decoded}
 use Rattle.stack.specs.Stack.{bytePushed, wordPushed, pulled, stacked, stackEffect}
 use Rattle.stack.specs.Stack.{subroutineEffect, returnEffect}
-use Rattle.frames.specs.Frames.{interruptEffect, waitEffect, pulledFrame}
+use Rattle.frames.specs.Frames.{interruptEffect, pulledFrame}
 use Rattle.flow.specs.Branches.{branched, shortEffect, longEffect, looped, loopDone, loopEffect}
 use Rattle.flow.specs.Control.{controlEffect}
 use Rattle.moves.specs.Moves.{byteMoveEffect, wordMoveEffect, moveEffect}
