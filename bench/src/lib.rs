@@ -1,6 +1,8 @@
 //! The images of the speed figures, and a run of one of them on the proved machine or on the second emulator.
 
 pub mod images;
+#[path = "../../bindings/rust/tests/common/of_the_second.rs"]
+mod of_the_second;
 mod program;
 pub mod trial;
 

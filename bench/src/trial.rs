@@ -1,8 +1,8 @@
 //! One run on one machine, and its time.
 
 use crate::images::Image;
+use crate::of_the_second::state_of;
 use cpu12::{Error, Machine, State};
-use second::cpu::Cpu;
 use second::machine;
 use std::time::{Duration, Instant};
 
@@ -68,20 +68,6 @@ pub fn steps(image: &Image, budget: u32) -> u32 {
     let mut steps = 0;
     machine::run_watched(&mut cpu, &mut memory, &schedule, budget, &mut |_, _, _| steps += 1);
     steps
-}
-
-fn state_of(cpu: &Cpu) -> State {
-    let mut state = State::default();
-    state.a = cpu.a;
-    state.b = cpu.b;
-    state.x = cpu.x;
-    state.y = cpu.y;
-    state.sp = cpu.sp;
-    state.pc = cpu.pc;
-    state.ccr = cpu.ccr;
-    state.waiting = cpu.waiting;
-    state.clock = cpu.clock;
-    state
 }
 
 pub fn by_the_second(image: &Image, budget: u32, timed: &mut Timed) -> Left {

@@ -8,7 +8,7 @@ use mathlib.Core.List.{List, [], _∷_}
 use lib.Dec.{eqb, ltb}
 use lib.ListN.{length, drop, replicate, length-drop, drop-of-length-le}
 use lib.Seq.{drop-cons}
-use borrow.Author.Tests.{eq-eqb, ne-eqb, eqb-true, ltb-false}
+use borrow.Author.Tests.{eq-eqb, ne-eqb, eqb-true, ltb-false, le-ltb}
 use Rattle.word.specs.Word.{pick}
 use Rattle.packing.specs.Bytes.{byteIn, recordSize, waitingPlace, reservedPlace, reservedBytes}
 use Rattle.packing.specs.Again.{IsRecord}
@@ -43,6 +43,15 @@ none-first a b z = go (eqb a 0) refl z
     go : (t : Bool) → eqb a 0 ≡ t → pick t b a ≡ 0 → a ≡ 0
     go true same z = eqb-true _ _ same
     go false other z = z
+
+-- where the length and the flag are right, the reserved bytes tell
+pub reserved-tells :
+    (r : List ℕ) {v : ℕ} {t : Bool} → v ≡ lengthRefusal r → v ≡ 0 → byteIn r waitingPlace ≤ 1 → t ≡ allZero (drop reservedPlace r) →
+    pick t 0 wrongReserved ≡ recordRefusal r
+reserved-tells r {v} {t} e z within clear =
+    let no-flag : flagRefusal r ≡ 0 = rw (le-ltb 1 (byteIn r waitingPlace) within) in
+    let asked = first-passes (lengthRefusal r) _ e z ∙ first-passes (flagRefusal r) _ refl no-flag in
+    ap (λ (t : Bool). pick t 0 wrongReserved) clear ∙ sym asked
 
 -- bytes that are all 0 are so many zeros
 zeros : (bytes : List ℕ) → allZero bytes ≡ true → bytes ≡ replicate (length bytes) 0

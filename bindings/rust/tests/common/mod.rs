@@ -1,22 +1,9 @@
 //! What both programs use.
 
-use cpu12::{Error, State};
-use second::cpu::Cpu;
+mod of_the_second;
 
-/// The second emulator's state, as the crate has it.
-pub fn state_of(cpu: &Cpu) -> State {
-    let mut state = State::default();
-    state.a = cpu.a;
-    state.b = cpu.b;
-    state.x = cpu.x;
-    state.y = cpu.y;
-    state.sp = cpu.sp;
-    state.pc = cpu.pc;
-    state.ccr = cpu.ccr;
-    state.waiting = cpu.waiting;
-    state.clock = cpu.clock;
-    state
-}
+use cpu12::Error;
+pub use of_the_second::state_of;
 
 /// The number of the reply.
 pub fn number<T>(result: Result<T, Error>) -> u32 {

@@ -1,10 +1,10 @@
 use borrow.Author.Needs.{needs}
-use borrow.Author.Tests.{lt-ltb, le-ltb}
+use borrow.Author.Tests.{lt-ltb}
 use mathlib.Core.Path.{sym, _∙_}
 use native.Mathlib.Omega.{arith}
 use Rattle.packing.specs.Bytes.{byteIn, waitingPlace}
 use Rattle.lent.specs.Lent.{firstOf}
-use Rattle.lent.proofs.Laws.{other-length, first-refuses, first-passes}
+use Rattle.lent.proofs.Laws.{other-length, first-refuses, first-passes, reserved-tells}
 use Rattle.lent.proofs.record_refusal.Statement.{statement}
 use Rattle.lent.proofs.record_refusal.Tie as tie
 
@@ -30,30 +30,18 @@ whole c κs =
     other-length (asked .before .before .args .r .now) (sym (asked .length-refusal .ensures) ∙ c .before .before .if1 .left)
 
 none : tie.Need-returns-3
-unfolding firstOf
 none c =
     let passed = c .before .before in
     let asked = passed .before .before .before in
-    let flag = byteIn (asked .before .before .args .r .now) waitingPlace in
-    rw (
-      first-passes _ _ (asked .length-refusal .ensures) (passed .before .before .if1 .left),
-      le-ltb 1 flag (omega (arith, passed .if2 .left)),
-      ← c .before .nothing-reserved .ensures,
-      c .if3 .taken,
-    )
+    rw (c .if3 .taken) at (reserved-tells (asked .before .before .args .r .now) (asked .length-refusal .ensures)
+    (passed .before .before .if1 .left) (omega (arith, passed .if2 .left)) (c .before .nothing-reserved .ensures))
 
 wrong-reserved : tie.Need-returns-4
-unfolding firstOf
 wrong-reserved c =
     let passed = c .before .before in
     let asked = passed .before .before .before in
-    let flag = byteIn (asked .before .before .args .r .now) waitingPlace in
-    rw (
-      first-passes _ _ (asked .length-refusal .ensures) (passed .before .before .if1 .left),
-      le-ltb 1 flag (omega (arith, passed .if2 .left)),
-      ← c .before .nothing-reserved .ensures,
-      c .if3 .left,
-    )
+    rw (c .if3 .left) at (reserved-tells (asked .before .before .args .r .now) (asked .length-refusal .ensures)
+    (passed .before .before .if1 .left) (omega (arith, passed .if2 .left)) (c .before .nothing-reserved .ensures))
 
 pub record-refusal-spec : {M : Type 1} → statement M
 record-refusal-spec =
