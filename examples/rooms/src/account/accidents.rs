@@ -84,32 +84,44 @@ fn cut_supply(tier: &mut impl Tier) -> io::Result<Trial> {
     tier.with_sign(|sign| supply::trial(sign))
 }
 
-fn tell_of_warned_rehang(out: &mut impl Write, rehang: &Found<Tally>) -> io::Result<()> {
-    let tally = &rehang.found;
-    writeln!(out, "\nA power warning in the rehang, at each of its {} cycles once", tally.cycles)?;
-    tell_of_entries(out, tally)?;
-    writeln!(
-        out,
-        "  The saved list was the whole old one {} times, the whole new one {} times, and a mixture {} times.",
-        tally.before, tally.after, tally.mixed
-    )?;
-    writeln!(out, "  With the power back, a rehang that was not saved was done again.")?;
-    tell_of_recovery(out, tally.recovered, tally.cycles)?;
-    rehang.tell_of_others(out)
+/// What a warning comes into, as the account speaks of it: the work, what of the save that changes, what this was found to be (as
+/// before the work, as after it, or neither), and what was done with the power back.
+struct Work<'a> {
+    name: &'a str,
+    saved: &'a str,
+    found: [&'a str; 3],
+    then: &'a str,
 }
 
-fn tell_of_warned_time(out: &mut impl Write, work: &str, time: &Found<Tally>) -> io::Result<()> {
-    let tally = &time.found;
-    writeln!(out, "\nA power warning in {}, at each of its {} cycles once", work, tally.cycles)?;
+fn tell_of_warned(out: &mut impl Write, work: &Work, warned: &Found<Tally>) -> io::Result<()> {
+    let tally = &warned.found;
+    let [before, after, neither] = work.found;
+    writeln!(
+        out,
+        "\nA power warning in {}, at each of its {} cycles once",
+        work.name, tally.cycles
+    )?;
     tell_of_entries(out, tally)?;
     writeln!(
         out,
-        "  The saved minute was the old one {} times, the new one {} times, and another {} times.",
-        tally.before, tally.after, tally.mixed
+        "  The saved {} was {} {} times, {} {} times, and {} {} times.",
+        work.saved, before, tally.before, after, tally.after, neither, tally.mixed
     )?;
-    writeln!(out, "  With the power back, the sign was given what it missed.")?;
+    writeln!(out, "  With the power back, {}.", work.then)?;
     tell_of_recovery(out, tally.recovered, tally.cycles)?;
-    time.tell_of_others(out)
+    warned.tell_of_others(out)
+}
+
+fn tell_of_warned_rehang(out: &mut impl Write, rehang: &Found<Tally>) -> io::Result<()> {
+    let found = ["the whole old one", "the whole new one", "a mixture"];
+    let then = "a rehang that was not saved was done again";
+    tell_of_warned(out, &Work { name: "the rehang", saved: "list", found, then }, rehang)
+}
+
+fn tell_of_warned_time(out: &mut impl Write, name: &str, time: &Found<Tally>) -> io::Result<()> {
+    let found = ["the old one", "the new one", "another"];
+    let then = "the sign was given what it missed";
+    tell_of_warned(out, &Work { name, saved: "minute", found, then }, time)
 }
 
 fn tell_of_entries(out: &mut impl Write, tally: &Tally) -> io::Result<()> {
