@@ -7,7 +7,11 @@ use mathlib.Core.List.{List, [], _∷_, _++_}
 use lib.ListN.{length, getD, set, take, replicate, length-set}
 use lib.Seq.{take-all, take-suc, take-suc-set}
 use Rattle.state.specs.declared.State.{State}
-use Rattle.packing.specs.Bytes.{byteIn, recordSize, packedSize, meantBytes, bytesOf, recordAt, recordsFrom, recordsOf}
+use Rattle.packing.specs.Bytes.{byteIn, recordSize, reservedPlace, packedSize, meantBytes, bytesOf, recordAt, recordsFrom, recordsOf}
+
+pub meant-long : (s : State) (cycles : ℕ) → length (meantBytes s cycles) ≡ reservedPlace
+unfolding meantBytes
+meant-long s cycles = refl
 
 pub bytes-long : (s : State) (cycles : ℕ) → length (bytesOf s cycles) ≡ recordSize
 unfolding bytesOf meantBytes

@@ -9,7 +9,7 @@ ghost use Prim.Native.Nat.{_≤_, _+_};
 ghost use lib.ListN.{length};
 ghost use Rattle.state.specs.Ccr.{weightOf};
 ghost use Rattle.table.specs.Records.{noRecords, gathered};
-ghost use Rattle.packing.specs.Bytes.{byteIn, wordIn, longIn, recordSize, packedSize, stateOf, meantBytes, bytesOf, recordAt, recordsOf};
+ghost use Rattle.packing.specs.Bytes.{byteIn, wordIn, longIn, recordSize, reservedPlace, packedSize, stateOf, meantBytes, bytesOf, recordAt, recordsOf};
 
 // The bytes of a state record, the place of its waiting flag, and the place from which on its bytes are reserved.
 pub const STATE: usize = 48;
@@ -93,8 +93,9 @@ fn meant_bytes(s: State, cycles: u32) -> [u8; RESERVED]
 }
 
 // The byte of a record at a place, by those that have a meaning: past them it is 0.
-fn byte_of(meant: [u8; RESERVED], i: usize) -> u8
-    ensures { λ r. ⌜ r ≡ byteIn meant i ⌝ }
+fn byte_of(meant: &[u8; RESERVED], i: usize) -> u8
+    requires { ⌜ length (now meant) ≡ reservedPlace ⌝ }
+    ensures { λ r. ⌜ r ≡ byteIn (now (meant .entry)) i ⌝ }
 {
     if i < RESERVED { meant[i] } else { 0 }
 }
@@ -106,7 +107,7 @@ pub fn put_record(r: &mut [u8], s: State, cycles: u32)
     let meant = meant_bytes(s, cycles);
     let mut i = 0;
     while i < STATE {
-        r[i] = byte_of(meant, i);
+        r[i] = byte_of(&meant, i);
         i += 1;
     }
 }

@@ -8,7 +8,7 @@ use Rattle.packing.proofs.byte_of.Tie as tie
 past : tie.Need-returns-2
 past c =
     let start = c .before in
-    sym (List·getD-eq-default (start .args .t1) 0 (omega (arith, start .good .0 .1 .0 .1, c .if1 .left)))
+    sym (List·getD-eq-default (start .args .meant .now) 0 (omega (arith, start .pre, c .if1 .left)))
 
 pub byte-of-spec : {M : Type 1} → statement M
 byte-of-spec = tie.close (tie.spec (λ c. search needs) (λ c. search needs) past)

@@ -4,7 +4,7 @@ use mathlib.Core.Path.{refl, _∙_}
 use mathlib.Core.List.{_++_}
 use borrow.Author.Needs.{needs}
 use Rattle.packing.specs.Bytes.{recordSize, reservedBytes, bytesOf}
-use Rattle.packing.proofs.Laws.{bytes-long, zeros-follow, Copying, copied-one, copied-all}
+use Rattle.packing.proofs.Laws.{meant-long, bytes-long, zeros-follow, Copying, copied-one, copied-all}
 use Rattle.packing.proofs.put_record.Statement.{statement}
 use Rattle.packing.proofs.put_record.Tie as tie
 
@@ -23,9 +23,12 @@ loop-holds c = record {
   same = refl;
 }
 
+byte-of-requires : tie.Need-byte-of-requires Inv-loop μ-loop
+byte-of-requires c κs = rw (c .before .before .before .meant-bytes .ensures) (meant-long _ _)
+
 loop-again : tie.Need-loop-again Inv-loop μ-loop
 loop-again c =
-    let inside = c .before in
+    let inside = c .before .before in
     rw (c .byte-of .ensures, ← zeros-follow (inside .before .before .meant-bytes .result) 28 _)
     (copied-one (inside .before .loop .inv) (inside .loop-test .taken))
 
@@ -43,7 +46,7 @@ put-record-spec =
     μ-loop
     (λ c κs. search needs)
     loop-holds
-    (λ c κs. search needs)
+    byte-of-requires
     (λ c. search needs)
     (λ c. search needs)
     (λ c. search needs)
