@@ -9,7 +9,7 @@ use Rattle.memory.specs.Memory.{byteAt}
 use Rattle.opcodes.specs.Postbyte.{formOf, IDX, IDX1, IDX2, [D:IDX], [IDX2]}
 use Rattle.operand.specs.declared.Place.{Place}
 use Rattle.operand.specs.Indexed.{fivePlace, steppedPlace, nineBits, sixteenBits, throughSixteen, throughD}
-use Rattle.operand.specs.Indexed.{plainAccumulator, constantPlace, accumulatorPlace, indexedPlace, placeIn, ByItsForm, PlainByItsForm, AddsUnsigned}
+use Rattle.operand.specs.Indexed.{plainAccumulator, constantPlace, accumulatorPlace, indexedPlace, placeIn, ByItsForm, PlainByItsForm, AddsUnsigned, AmountsAsListed}
 
 -- the two choices, each for any truth of the bits that they look at
 agree :
@@ -56,3 +56,6 @@ plain-by-its-form s m at pc is = ap (λ form. placeIn form s m at pc (byteAt m a
 pub adds-unsigned : AddsUnsigned
 unfolding indexedPlace accumulatorPlace
 adds-unsigned s m at pc = (λ is. rw is, λ is. rw is, λ is. rw is)
+
+pub amounts-as-listed : AmountsAsListed
+amounts-as-listed = refl

@@ -1,10 +1,11 @@
 -- The effective address of an indexed operand, and the base register's update with it (docs/MACHINE.md, "Addresses"; source document
 -- 002, section 3.8, pp. 3-5 to 3-10, and table A-5; 000, table 4).
-use Prim.Native.Nat.{ℕ, _+_, _*_, _/_, _%_}
+use Prim.Native.Nat.{ℕ, _+_, _-_, _*_, _/_, _%_}
 use mathlib.Core.Path.{_≡_}
 use mathlib.Core.Bool.{Bool, not, _&&_}
-use mathlib.Core.List.{List}
+use mathlib.Core.List.{List, [], _∷_, map}
 use lib.Dec.{eqb}
+use lib.ListN.{replicate}
 use Rattle.word.specs.Word.{pick, bitOf, plusW, extend9}
 use Rattle.memory.specs.Memory.{byteAt, wordAt}
 use Rattle.state.specs.declared.State.{State}
@@ -30,6 +31,25 @@ offset5 p = pick (bitOf 4 p) (p % 32 + 65504) (p % 32)
 -- nnnn as the amount of a step: 0 to 7 add 1 to 8, 8 to 15 add -8 to -1
 abbrev pub stepAmount : ℕ → ℕ
 stepAmount p = pick (bitOf 3 p) (p % 16 + 65520) (p % 16 + 1)
+
+-- The sixteen amounts as the papers list them, modulo 65,536 (003, table A-3; 002, p. A-22, and the ends of both halves in table 3-2,
+-- p. 3-6). Four stand in a line, for nnnn from 0, 4, 8 and 12 on: number twelve, 1100, is -4.
+abbrev pub stepAmounts : List ℕ
+stepAmounts =
+    1 ∷ 2 ∷ 3 ∷ 4
+    ∷ 5 ∷ 6 ∷ 7 ∷ 8
+    ∷ (65536 - 8) ∷ (65536 - 7) ∷ (65536 - 6) ∷ (65536 - 5)
+    ∷ (65536 - 4) ∷ (65536 - 3) ∷ (65536 - 2) ∷ (65536 - 1) ∷ []
+
+-- what the rule gives down a column of table A-3, for the sixteen postbytes that begin with one digit
+abbrev pub amountsBelow : ℕ → List ℕ
+amountsBelow column =
+    map (λ row. stepAmount (column * 16 + row)) (0 ∷ 1 ∷ 2 ∷ 3 ∷ 4 ∷ 5 ∷ 6 ∷ 7 ∷ 8 ∷ 9 ∷ 10 ∷ 11 ∷ 12 ∷ 13 ∷ 14 ∷ 15 ∷ [])
+
+-- The rule gives the list in each of the six columns that step: 2 and 3 for X, 6 and 7 for Y, A and B for SP. Proved under this name
+-- in proofs/Forms.antt.
+abbrev pub AmountsAsListed : Type 0
+AmountsAsListed = map amountsBelow (0x2 ∷ 0x3 ∷ 0x6 ∷ 0x7 ∷ 0xA ∷ 0xB ∷ []) ≡ replicate 6 stepAmounts
 
 -- rr0nnnnn: a signed 5-bit offset
 abbrev pub fivePlace : State → ℕ → ℕ → Place
