@@ -1,0 +1,71 @@
+//! What the next step costs, found before it is done.
+//!
+//! A run asks only where its budget may be too short for the step; else the step itself counts.
+
+use crate::core::{Core, Memory};
+use crate::flags::Flags;
+use crate::operand::{fetch, Step};
+use crate::run::{ENTRY_COST, IDLE_COST, WAIT_END_COST};
+use crate::tables::{loop_is_reserved, transfer_is_reserved, Cell, Form};
+use crate::tables::{LONG_UNTAKEN, PREBYTE, SHORT_UNTAKEN};
+use crate::Reply;
+
+const LOOP: u8 = 0x04;
+const TRANSFER: u8 = 0xB7;
+
+/// The step that is next under a line byte.
+pub fn cost_of_next(core: &Core, line: u8) -> Result<u32, Reply> {
+    match (line & core.open_lines() != 0, core.waiting) {
+        (true, true) => Ok(WAIT_END_COST),
+        (true, false) => Ok(ENTRY_COST),
+        (false, true) => Ok(IDLE_COST),
+        (false, false) => cost_at(core.memory, core.pc, core.flags),
+    }
+}
+
+/// The instruction at PC.
+#[cold]
+pub fn cost_at(memory: &Memory, pc: u16, flags: Flags) -> Result<u32, Reply> {
+    let code = fetch(memory, pc);
+    match Step::opcode(code) {
+        PREBYTE => cost_on_page_2(code << 8, flags),
+        _ => cost_on_page_1(code, flags),
+    }
+}
+
+fn cost_on_page_1(code: u64, flags: Flags) -> Result<u32, Reply> {
+    let opcode = Step::opcode(code);
+    let postbyte = Step::opcode(code << 8);
+    match opcode {
+        LOOP if loop_is_reserved(postbyte) => Err(Reply::ReservedPostbyte),
+        TRANSFER if transfer_is_reserved(postbyte) => Err(Reply::ReservedPostbyte),
+        0x20..=0x2F if !flags.condition(opcode & 0xF) => Ok(SHORT_UNTAKEN),
+        _ => cost_of_cell(Cell::page_1(opcode), code),
+    }
+}
+
+fn cost_on_page_2(code: u64, flags: Flags) -> Result<u32, Reply> {
+    let opcode = Step::opcode(code);
+    match opcode {
+        0x20..=0x2F if !flags.condition(opcode & 0xF) => Ok(LONG_UNTAKEN),
+        _ => cost_of_cell(Cell::page_2(opcode), code),
+    }
+}
+
+fn cost_of_cell(cell: Cell, code: u64) -> Result<u32, Reply> {
+    if cell.cost() == 0 {
+        return Err(Reply::Stopped);
+    }
+    if !cell.is_indexed() {
+        return Ok(cell.cost());
+    }
+    let cost_with = |postbyte| match cell.cost_in(Form::of(postbyte)) {
+        0 => Err(Reply::ReservedPostbyte),
+        cost => Ok(cost),
+    };
+    let (first, second) = (Step::opcode(code << 8), Step::opcode(code << 16));
+    if cell.is_indexed_twice() {
+        cost_with(second)?;
+    }
+    cost_with(first)
+}
