@@ -2,7 +2,7 @@
 //!
 //! A code or a register that the manual leaves undefined keeps its old value.
 
-use crate::core::Core;
+use crate::core::{Core, IX, IY};
 
 /// The part `fraction` / 256 of the way from the first entry to the second, rounded down.
 #[inline(always)]
@@ -27,12 +27,12 @@ impl Core<'_> {
 
     #[inline(always)]
     pub fn emul(&mut self) {
-        self.multiplied(u32::from(self.d()) * u32::from(self.y));
+        self.multiplied(u32::from(self.d()) * u32::from(self.index[IY]));
     }
 
     #[inline(always)]
     pub fn emuls(&mut self) {
-        let product = i32::from(self.d() as i16) * i32::from(self.y as i16);
+        let product = i32::from(self.d() as i16) * i32::from(self.index[IY] as i16);
         self.multiplied(product as u32);
     }
 
@@ -40,7 +40,7 @@ impl Core<'_> {
     #[inline(always)]
     pub fn emacs(&mut self, address: u16) {
         let factor = |at| i32::from(self.read16(at) as i16);
-        let product = (factor(self.x) * factor(self.y)) as u32;
+        let product = (factor(self.index[IX]) * factor(self.index[IY])) as u32;
         let before = self.read32(address);
         let result = before.wrapping_add(product);
         self.write32(address, result);
@@ -51,36 +51,36 @@ impl Core<'_> {
 
     #[inline(always)]
     pub fn idiv(&mut self) {
-        let (dividend, divisor) = (self.d(), self.x);
+        let (dividend, divisor) = (self.d(), self.index[IX]);
         self.flags.set_v(false);
         self.flags.set_c(divisor == 0);
         if divisor == 0 {
-            self.x = 0xFFFF;
+            self.index[IX] = 0xFFFF;
         } else {
-            self.x = dividend / divisor;
+            self.index[IX] = dividend / divisor;
             self.set_d(dividend % divisor);
         }
-        self.flags.z16(self.x);
+        self.flags.z16(self.index[IX]);
     }
 
     #[inline(always)]
     pub fn fdiv(&mut self) {
-        let (dividend, divisor) = (u32::from(self.d()) << 16, u32::from(self.x));
-        let too_large = self.x <= self.d();
+        let (dividend, divisor) = (u32::from(self.d()) << 16, u32::from(self.index[IX]));
+        let too_large = self.index[IX] <= self.d();
         self.flags.set_v(too_large);
         self.flags.set_c(divisor == 0);
         if too_large {
-            self.x = 0xFFFF;
+            self.index[IX] = 0xFFFF;
         } else {
-            self.x = (dividend / divisor) as u16;
+            self.index[IX] = (dividend / divisor) as u16;
             self.set_d((dividend % divisor) as u16);
         }
-        self.flags.z16(self.x);
+        self.flags.z16(self.index[IX]);
     }
 
     #[inline(always)]
     pub fn idivs(&mut self) {
-        let (dividend, divisor) = (i32::from(self.d() as i16), i32::from(self.x as i16));
+        let (dividend, divisor) = (i32::from(self.d() as i16), i32::from(self.index[IX] as i16));
         self.flags.set_c(divisor == 0);
         if divisor == 0 {
             return;
@@ -91,12 +91,12 @@ impl Core<'_> {
             return;
         }
         self.set_d((dividend % divisor) as u16);
-        self.x = self.flags.nz16(quotient as u16);
+        self.index[IX] = self.flags.nz16(quotient as u16);
     }
 
     #[inline(always)]
     pub fn ediv(&mut self) {
-        let (dividend, divisor) = (self.y_d(), u32::from(self.x));
+        let (dividend, divisor) = (self.y_d(), u32::from(self.index[IX]));
         self.flags.set_c(divisor == 0);
         if divisor == 0 {
             return;
@@ -107,13 +107,13 @@ impl Core<'_> {
             return;
         }
         self.set_d((dividend % divisor) as u16);
-        self.y = self.flags.nz16(quotient as u16);
+        self.index[IY] = self.flags.nz16(quotient as u16);
     }
 
     /// With 64 bits no quotient overflows, not even that of the lowest number by -1.
     #[inline(always)]
     pub fn edivs(&mut self) {
-        let (dividend, divisor) = (i64::from(self.y_d() as i32), i64::from(self.x as i16));
+        let (dividend, divisor) = (i64::from(self.y_d() as i32), i64::from(self.index[IX] as i16));
         self.flags.set_c(divisor == 0);
         if divisor == 0 {
             return;
@@ -125,7 +125,7 @@ impl Core<'_> {
             return;
         }
         self.set_d((dividend % divisor) as u16);
-        self.y = self.flags.nz16(quotient as u16);
+        self.index[IY] = self.flags.nz16(quotient as u16);
     }
 
     /// DAA. Where the manual's table has no row for C, H and A nothing is added and C stays.

@@ -14,13 +14,17 @@ pub const TRAP_VECTOR: u16 = 0xFFF8;
 pub const SWI_VECTOR: u16 = 0xFFF6;
 pub const XIRQ_VECTOR: u16 = 0xFFF4;
 
+/// Places in `Core::index`.
+pub const IX: usize = 0;
+pub const IY: usize = 1;
+pub const SP: usize = 2;
+
 pub struct Core<'m> {
     pub memory: &'m mut Memory,
     pub a: u8,
     pub b: u8,
-    pub x: u16,
-    pub y: u16,
-    pub sp: u16,
+    /// X, Y and SP, by the numbers that indexed postbytes have for them.
+    pub index: [u16; 3],
     pub pc: u16,
     pub flags: Flags,
     pub waiting: bool,
@@ -37,9 +41,7 @@ impl<'m> Core<'m> {
             memory,
             a: cpu.a,
             b: cpu.b,
-            x: cpu.x,
-            y: cpu.y,
-            sp: cpu.sp,
+            index: [cpu.x, cpu.y, cpu.sp],
             pc: cpu.pc,
             flags: Flags::unpack(cpu.ccr),
             waiting: cpu.waiting,
@@ -53,9 +55,9 @@ impl<'m> Core<'m> {
         Cpu {
             a: self.a,
             b: self.b,
-            x: self.x,
-            y: self.y,
-            sp: self.sp,
+            x: self.index[IX],
+            y: self.index[IY],
+            sp: self.index[SP],
             pc: self.pc,
             ccr: self.flags.pack(),
             waiting: self.waiting,
@@ -75,20 +77,20 @@ impl<'m> Core<'m> {
 
     #[inline(always)]
     pub fn y_d(&self) -> u32 {
-        u32::from(self.y) << 16 | u32::from(self.d())
+        u32::from(self.index[IY]) << 16 | u32::from(self.d())
     }
 
     #[inline(always)]
     pub fn set_y_d(&mut self, value: u32) {
-        self.y = (value >> 16) as u16;
+        self.index[IY] = (value >> 16) as u16;
         self.set_d(value as u16);
     }
 
     /// A whole byte goes into the CCR. X can fall but not rise.
     #[inline(always)]
     pub fn set_ccr(&mut self, value: u8) {
-        let kept_x = self.flags.masks | !X;
-        self.flags = Flags::unpack(value & kept_x);
+        let kept = self.flags.masks | !X;
+        self.flags.set(value & kept);
         self.look_at = 0;
     }
 
@@ -127,27 +129,27 @@ impl<'m> Core<'m> {
 
     #[inline(always)]
     pub fn push8(&mut self, value: u8) {
-        self.sp = self.sp.wrapping_sub(1);
-        self.write8(self.sp, value);
+        self.index[SP] = self.index[SP].wrapping_sub(1);
+        self.write8(self.index[SP], value);
     }
 
     #[inline(always)]
     pub fn push16(&mut self, value: u16) {
-        self.sp = self.sp.wrapping_sub(2);
-        self.write16(self.sp, value);
+        self.index[SP] = self.index[SP].wrapping_sub(2);
+        self.write16(self.index[SP], value);
     }
 
     #[inline(always)]
     pub fn pull8(&mut self) -> u8 {
-        let value = self.read8(self.sp);
-        self.sp = self.sp.wrapping_add(1);
+        let value = self.read8(self.index[SP]);
+        self.index[SP] = self.index[SP].wrapping_add(1);
         value
     }
 
     #[inline(always)]
     pub fn pull16(&mut self) -> u16 {
-        let value = self.read16(self.sp);
-        self.sp = self.sp.wrapping_add(2);
+        let value = self.read16(self.index[SP]);
+        self.index[SP] = self.index[SP].wrapping_add(2);
         value
     }
 
@@ -155,8 +157,8 @@ impl<'m> Core<'m> {
     #[inline(always)]
     pub fn push_frame(&mut self, return_address: u16) {
         self.push16(return_address);
-        self.push16(self.y);
-        self.push16(self.x);
+        self.push16(self.index[IY]);
+        self.push16(self.index[IX]);
         self.push8(self.a);
         self.push8(self.b);
         self.push8(self.flags.pack());
@@ -169,8 +171,8 @@ impl<'m> Core<'m> {
         self.set_ccr(ccr);
         self.b = self.pull8();
         self.a = self.pull8();
-        self.x = self.pull16();
-        self.y = self.pull16();
+        self.index[IX] = self.pull16();
+        self.index[IY] = self.pull16();
         self.pull16()
     }
 

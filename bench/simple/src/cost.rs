@@ -19,21 +19,22 @@ pub fn cost_of_next(core: &Core, line: u8) -> Result<u32, Reply> {
         (true, true) => Ok(WAIT_END_COST),
         (true, false) => Ok(ENTRY_COST),
         (false, true) => Ok(IDLE_COST),
-        (false, false) => cost_at(core.memory, core.pc, core.flags),
+        (false, false) => cost_at(core.memory, core.pc, core.flags.pack()),
     }
 }
 
 /// The instruction at PC.
 #[cold]
-pub fn cost_at(memory: &Memory, pc: u16, flags: Flags) -> Result<u32, Reply> {
+pub fn cost_at(memory: &Memory, pc: u16, ccr: u8) -> Result<u32, Reply> {
+    let flags = Flags::unpack(ccr);
     let code = fetch(memory, pc);
     match Step::opcode(code) {
-        PREBYTE => cost_on_page_2(code << 8, flags),
-        _ => cost_on_page_1(code, flags),
+        PREBYTE => cost_on_page_2(code << 8, &flags),
+        _ => cost_on_page_1(code, &flags),
     }
 }
 
-fn cost_on_page_1(code: u64, flags: Flags) -> Result<u32, Reply> {
+fn cost_on_page_1(code: u64, flags: &Flags) -> Result<u32, Reply> {
     let opcode = Step::opcode(code);
     let postbyte = Step::opcode(code << 8);
     match opcode {
@@ -44,7 +45,7 @@ fn cost_on_page_1(code: u64, flags: Flags) -> Result<u32, Reply> {
     }
 }
 
-fn cost_on_page_2(code: u64, flags: Flags) -> Result<u32, Reply> {
+fn cost_on_page_2(code: u64, flags: &Flags) -> Result<u32, Reply> {
     let opcode = Step::opcode(code);
     match opcode {
         0x20..=0x2F if !flags.condition(opcode & 0xF) => Ok(LONG_UNTAKEN),

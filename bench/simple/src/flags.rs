@@ -13,7 +13,6 @@ pub const Z: u8 = 0x04;
 pub const V: u8 = 0x02;
 pub const C: u8 = 0x01;
 
-#[derive(Clone, Copy)]
 pub struct Flags {
     /// S, X and I in their places; the other bits are 0.
     pub masks: u8,
@@ -34,14 +33,21 @@ const SIGN: i32 = i32::MIN;
 impl Flags {
     #[inline(always)]
     pub fn unpack(ccr: u8) -> Flags {
+        let mut flags = Flags { masks: 0, result: 0, overflow: 0, carry: 0, half: 0 };
+        flags.set(ccr);
+        flags
+    }
+
+    /// Sets each code by itself. To put a whole `Flags` in place would keep the five from being
+    /// registers of their own.
+    #[inline(always)]
+    pub fn set(&mut self, ccr: u8) {
         let sign = if ccr & N != 0 { SIGN } else { 0 };
-        Flags {
-            masks: ccr & (S | X | I),
-            result: sign | i32::from(ccr & Z == 0),
-            overflow: ccr << 6,
-            carry: ccr & C,
-            half: ccr >> 1,
-        }
+        self.masks = ccr & (S | X | I);
+        self.result = sign | i32::from(ccr & Z == 0);
+        self.overflow = ccr << 6;
+        self.carry = ccr & C;
+        self.half = ccr >> 1;
     }
 
     #[inline(always)]

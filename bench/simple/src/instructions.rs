@@ -1,6 +1,6 @@
 //! What the instructions do that need more than a line of the matches on the opcode.
 
-use crate::core::Core;
+use crate::core::{Core, IX, IY, SP};
 use crate::flags::Flags;
 use crate::operand::Step;
 use crate::tables::{
@@ -161,9 +161,9 @@ impl Core<'_> {
             0 => u16::from(self.a),
             1 => u16::from(self.b),
             4 => self.d(),
-            5 => self.x,
-            6 => self.y,
-            7 => self.sp,
+            5 => self.index[IX],
+            6 => self.index[IY],
+            7 => self.index[SP],
             _ => u16::from(self.flags.pack()),
         }
     }
@@ -175,9 +175,9 @@ impl Core<'_> {
             0 => self.a = value as u8,
             1 => self.b = value as u8,
             4 => self.set_d(value),
-            5 => self.x = value,
-            6 => self.y = value,
-            7 => self.sp = value,
+            5 => self.index[IX] = value,
+            6 => self.index[IY] = value,
+            7 => self.index[SP] = value,
             _ => self.set_ccr(value as u8),
         }
     }

@@ -43,12 +43,6 @@ impl Step {
         u16::from(self.byte(1))
     }
 
-    /// The address of extended addressing.
-    #[inline(always)]
-    pub fn extended(&self) -> u16 {
-        self.word(1)
-    }
-
     #[inline(always)]
     pub fn branch(&mut self, offset: u16) {
         self.next = self.next.wrapping_add(offset);
@@ -89,19 +83,17 @@ fn step_amount(postbyte: u8) -> u16 {
     (i16::from(signed) + i16::from(signed >= 0)) as u16
 }
 
-/// Steps a register, which is then the address.
+/// Steps a register. Bit 4 says whether the address is the old or the new value.
 #[inline(always)]
-fn before(register: &mut u16, postbyte: u8) -> u16 {
-    *register = register.wrapping_add(step_amount(postbyte));
-    *register
-}
-
-/// Steps a register, which was the address.
-#[inline(always)]
-fn after(register: &mut u16, postbyte: u8) -> u16 {
-    let address = *register;
-    *register = register.wrapping_add(step_amount(postbyte));
-    address
+fn stepped(register: &mut u16, postbyte: u8) -> u16 {
+    let before = *register;
+    let after = before.wrapping_add(step_amount(postbyte));
+    *register = after;
+    if postbyte & 0x10 != 0 {
+        before
+    } else {
+        after
+    }
 }
 
 /// The bytes at PC, the first one highest.
@@ -135,7 +127,7 @@ impl Core<'_> {
         }
         let (byte, word) = (step.byte(2), step.word(2));
         step.skip(form.extension);
-        let base = self.base(postbyte >> 3, step.next);
+        let base = self.base(postbyte, step.next);
         Ok(match postbyte & 7 {
             0 => base.wrapping_add(u16::from(byte)),
             1 => base.wrapping_add(u16::from(byte) | 0xFF00),
@@ -149,28 +141,17 @@ impl Core<'_> {
     /// A postbyte below `FIRST_LONG`: five bits of offset, or a step of the register.
     #[inline(always)]
     fn short_index(&mut self, postbyte: u8, pc: u16) -> u16 {
-        match postbyte >> 4 {
-            0x0 | 0x1 => self.x.wrapping_add(offset5(postbyte)),
-            0x2 => before(&mut self.x, postbyte),
-            0x3 => after(&mut self.x, postbyte),
-            0x4 | 0x5 => self.y.wrapping_add(offset5(postbyte)),
-            0x6 => before(&mut self.y, postbyte),
-            0x7 => after(&mut self.y, postbyte),
-            0x8 | 0x9 => self.sp.wrapping_add(offset5(postbyte)),
-            0xA => before(&mut self.sp, postbyte),
-            0xB => after(&mut self.sp, postbyte),
-            _ => pc.wrapping_add(offset5(postbyte)),
+        match self.index.get_mut(usize::from(postbyte >> 6)) {
+            Some(register) if postbyte & 0x20 != 0 => stepped(register, postbyte),
+            Some(register) => register.wrapping_add(offset5(postbyte)),
+            None => pc.wrapping_add(offset5(postbyte)),
         }
     }
 
+    /// The register that a postbyte from `FIRST_LONG` on starts from.
     #[inline(always)]
-    fn base(&self, code: u8, pc: u16) -> u16 {
-        match code & 3 {
-            0 => self.x,
-            1 => self.y,
-            2 => self.sp,
-            _ => pc,
-        }
+    fn base(&self, postbyte: u8, pc: u16) -> u16 {
+        self.index.get(usize::from(postbyte >> 3 & 3)).copied().unwrap_or(pc)
     }
 
     /// The accumulators that a postbyte adds, without a sign.
@@ -191,6 +172,6 @@ impl Core<'_> {
         if postbyte < FIRST_LONG {
             return self.short_index(postbyte, pc);
         }
-        self.base(postbyte >> 3, pc).wrapping_add(self.accumulator(postbyte))
+        self.base(postbyte, pc).wrapping_add(self.accumulator(postbyte))
     }
 }

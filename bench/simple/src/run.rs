@@ -84,7 +84,7 @@ impl Core<'_> {
             }
         }
         let left = end - self.clock;
-        if left < LONGEST && cost_at(self.memory, self.pc, self.flags)? > left {
+        if left < LONGEST && cost_at(self.memory, self.pc, self.flags.pack())? > left {
             return Err(Reply::Done);
         }
         self.look_at = lines.next_change().min(end.saturating_sub(LONGEST - 1));
