@@ -14,7 +14,12 @@ pub const TRAP_VECTOR: u16 = 0xFFF8;
 pub const SWI_VECTOR: u16 = 0xFFF6;
 pub const XIRQ_VECTOR: u16 = 0xFFF4;
 
-/// Places in `Core::index`.
+/// X, Y and SP, by the numbers that indexed postbytes have for them. They stand outside of
+/// `Core`, since what is found by a number has to be in memory, and would keep the rest of
+/// `Core` there too.
+pub type Index = [u16; 3];
+
+/// Places in `Index`.
 pub const IX: usize = 0;
 pub const IY: usize = 1;
 pub const SP: usize = 2;
@@ -23,8 +28,7 @@ pub struct Core<'m> {
     pub memory: &'m mut Memory,
     pub a: u8,
     pub b: u8,
-    /// X, Y and SP, by the numbers that indexed postbytes have for them.
-    pub index: [u16; 3],
+    pub index: &'m mut Index,
     pub pc: u16,
     pub flags: Flags,
     pub waiting: bool,
@@ -36,12 +40,13 @@ pub struct Core<'m> {
 
 impl<'m> Core<'m> {
     #[inline(always)]
-    pub fn take(cpu: &Cpu, memory: &'m mut Memory) -> Core<'m> {
+    pub fn take(cpu: &Cpu, index: &'m mut Index, memory: &'m mut Memory) -> Core<'m> {
+        *index = [cpu.x, cpu.y, cpu.sp];
         Core {
             memory,
             a: cpu.a,
             b: cpu.b,
-            index: [cpu.x, cpu.y, cpu.sp],
+            index,
             pc: cpu.pc,
             flags: Flags::unpack(cpu.ccr),
             waiting: cpu.waiting,

@@ -2,24 +2,24 @@
 //!
 //! A run asks only where its budget may be too short for the step; else the step itself counts.
 
-use crate::core::{Core, Memory};
+use crate::core::Memory;
 use crate::flags::Flags;
 use crate::operand::{fetch, Step};
-use crate::run::{ENTRY_COST, IDLE_COST, WAIT_END_COST};
+use crate::run::{open_lines, ENTRY_COST, IDLE_COST, WAIT_END_COST};
 use crate::tables::{loop_is_reserved, transfer_is_reserved, Cell, Form};
 use crate::tables::{LONG_UNTAKEN, PREBYTE, SHORT_UNTAKEN};
-use crate::Reply;
+use crate::{Cpu, Reply};
 
 const LOOP: u8 = 0x04;
 const TRANSFER: u8 = 0xB7;
 
 /// The step that is next under a line byte.
-pub fn cost_of_next(core: &Core, line: u8) -> Result<u32, Reply> {
-    match (line & core.open_lines() != 0, core.waiting) {
+pub fn cost_of_next(cpu: &Cpu, memory: &Memory, line: u8) -> Result<u32, Reply> {
+    match (line & open_lines(cpu.ccr) != 0, cpu.waiting) {
         (true, true) => Ok(WAIT_END_COST),
         (true, false) => Ok(ENTRY_COST),
         (false, true) => Ok(IDLE_COST),
-        (false, false) => cost_at(core.memory, core.pc, core.flags.pack()),
+        (false, false) => cost_at(memory, cpu.pc, cpu.ccr),
     }
 }
 

@@ -14,7 +14,7 @@ mod operand;
 mod run;
 mod tables;
 
-use crate::core::{Core, Memory, RESET_VECTOR};
+use crate::core::{Memory, RESET_VECTOR};
 use cost::cost_of_next;
 use run::run_until;
 
@@ -106,7 +106,7 @@ pub fn step(cpu: &mut Cpu, memory: &mut [u8], line: u8) -> Outcome {
     if cpu.clock > MOST_STEP_CLOCK {
         return refused(Reply::PastLimit);
     }
-    match cost_of_next(&Core::take(cpu, memory), line) {
+    match cost_of_next(cpu, memory, line) {
         Err(reply) => refused(reply),
         Ok(cycles) => {
             // The reply tells what comes after the step, which was not asked.

@@ -1,7 +1,7 @@
 //! The steps of a run one after another, and what comes between instructions: requests, waits
 //! and the end of the budget.
 
-use crate::core::{Core, Memory, XIRQ_VECTOR};
+use crate::core::{Core, Index, Memory, XIRQ_VECTOR};
 use crate::cost::cost_at;
 use crate::flags::{I, X};
 use crate::tables::LONGEST;
@@ -42,9 +42,18 @@ impl Lines<'_> {
     }
 }
 
+/// The lines that the masks X and I let in.
+#[inline(always)]
+pub fn open_lines(masks: u8) -> u8 {
+    let xirq = if masks & X == 0 { XIRQ } else { 0 };
+    let others = if masks & I == 0 { !XIRQ } else { 0 };
+    xirq | others
+}
+
 /// Steps until the clock is so near its end that the next step would pass it, or a refusal.
 pub fn run_until(end: u32, cpu: &mut Cpu, memory: &mut Memory, schedule: &[Record]) -> Reply {
-    let mut core = Core::take(cpu, memory);
+    let mut index = Index::default();
+    let mut core = Core::take(cpu, &mut index, memory);
     let mut lines = Lines { line: 0, rest: schedule };
     let reply = loop {
         if core.clock >= core.look_at {
@@ -61,20 +70,12 @@ pub fn run_until(end: u32, cpu: &mut Cpu, memory: &mut Memory, schedule: &[Recor
 }
 
 impl Core<'_> {
-    /// The lines that the masks let in.
-    #[inline(always)]
-    pub fn open_lines(&self) -> u8 {
-        let xirq = if self.flags.masks & X == 0 { XIRQ } else { 0 };
-        let others = if self.flags.masks & I == 0 { !XIRQ } else { 0 };
-        xirq | others
-    }
-
     /// Enters requests and waits until the next step is an instruction, and says how long
     /// nothing else can come. An error is the reply that ends the run.
     #[inline(always)]
     fn come_to_instruction(&mut self, lines: &mut Lines, end: u32) -> Result<(), Reply> {
         loop {
-            let let_in = lines.at(self.clock) & self.open_lines();
+            let let_in = lines.at(self.clock) & open_lines(self.flags.masks);
             if let_in != 0 {
                 self.enter_request(let_in, end - self.clock)?;
             } else if self.waiting {
