@@ -72,12 +72,13 @@ impl<'m> Core<'m> {
 
     #[inline(always)]
     pub fn d(&self) -> u16 {
-        u16::from_be_bytes([self.a, self.b])
+        u16::from(self.a) << 8 | u16::from(self.b)
     }
 
     #[inline(always)]
     pub fn set_d(&mut self, value: u16) {
-        [self.a, self.b] = value.to_be_bytes();
+        self.a = (value >> 8) as u8;
+        self.b = value as u8;
     }
 
     #[inline(always)]
@@ -106,7 +107,7 @@ impl<'m> Core<'m> {
 
     #[inline(always)]
     pub fn read16(&self, address: u16) -> u16 {
-        u16::from_be_bytes([self.read8(address), self.read8(address.wrapping_add(1))])
+        u16::from(self.read8(address)) << 8 | u16::from(self.read8(address.wrapping_add(1)))
     }
 
     #[inline(always)]
@@ -121,9 +122,8 @@ impl<'m> Core<'m> {
 
     #[inline(always)]
     pub fn write16(&mut self, address: u16, value: u16) {
-        let [high, low] = value.to_be_bytes();
-        self.write8(address, high);
-        self.write8(address.wrapping_add(1), low);
+        self.write8(address, (value >> 8) as u8);
+        self.write8(address.wrapping_add(1), value as u8);
     }
 
     #[inline(always)]

@@ -4,7 +4,7 @@
 
 use crate::core::Memory;
 use crate::flags::Flags;
-use crate::operand::{fetch, Step};
+use crate::operand::{fetch, first_byte};
 use crate::run::{open_lines, ENTRY_COST, IDLE_COST, WAIT_END_COST};
 use crate::tables::{loop_is_reserved, transfer_is_reserved, Cell, Form};
 use crate::tables::{LONG_UNTAKEN, PREBYTE, SHORT_UNTAKEN};
@@ -28,15 +28,15 @@ pub fn cost_of_next(cpu: &Cpu, memory: &Memory, line: u8) -> Result<u32, Reply> 
 pub fn cost_at(memory: &Memory, pc: u16, ccr: u8) -> Result<u32, Reply> {
     let flags = Flags::unpack(ccr);
     let code = fetch(memory, pc);
-    match Step::opcode(code) {
+    match first_byte(code) {
         PREBYTE => cost_on_page_2(code << 8, &flags),
         _ => cost_on_page_1(code, &flags),
     }
 }
 
 fn cost_on_page_1(code: u64, flags: &Flags) -> Result<u32, Reply> {
-    let opcode = Step::opcode(code);
-    let postbyte = Step::opcode(code << 8);
+    let opcode = first_byte(code);
+    let postbyte = first_byte(code << 8);
     match opcode {
         LOOP if loop_is_reserved(postbyte) => Err(Reply::ReservedPostbyte),
         TRANSFER if transfer_is_reserved(postbyte) => Err(Reply::ReservedPostbyte),
@@ -46,7 +46,7 @@ fn cost_on_page_1(code: u64, flags: &Flags) -> Result<u32, Reply> {
 }
 
 fn cost_on_page_2(code: u64, flags: &Flags) -> Result<u32, Reply> {
-    let opcode = Step::opcode(code);
+    let opcode = first_byte(code);
     match opcode {
         0x20..=0x2F if !flags.condition(opcode & 0xF) => Ok(LONG_UNTAKEN),
         _ => cost_of_cell(Cell::page_2(opcode), code),
@@ -64,7 +64,7 @@ fn cost_of_cell(cell: Cell, code: u64) -> Result<u32, Reply> {
         0 => Err(Reply::ReservedPostbyte),
         cost => Ok(cost),
     };
-    let (first, second) = (Step::opcode(code << 8), Step::opcode(code << 16));
+    let (first, second) = (first_byte(code << 8), first_byte(code << 16));
     if cell.is_indexed_twice() {
         cost_with(second)?;
     }

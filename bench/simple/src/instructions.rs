@@ -96,18 +96,21 @@ impl Core<'_> {
         self.store8(address, self.read8(address) & !mask);
     }
 
-    /// BRCLR, and BRSET with the complement: the mask stands at `place`, the offset behind it.
+    /// BRCLR, and BRSET with the complement.
     #[inline(always)]
-    pub fn branch_if_clear(&mut self, value: u8, place: u32, step: &mut Step) {
-        if value & step.byte(place) == 0 {
-            step.branch8(place + 1);
+    pub fn branch_if_clear(&mut self, value: u8, step: &mut Step) {
+        let mask = step.take8();
+        let offset = step.take8() as i8 as u16;
+        if value & mask == 0 {
+            step.branch(offset);
         }
     }
 
     #[inline(always)]
     pub fn branch_if(&mut self, condition: u8, step: &mut Step) {
+        let offset = step.take8() as i8 as u16;
         if self.flags.condition(condition) {
-            step.branch8(1);
+            step.branch(offset);
         } else {
             step.cost = SHORT_UNTAKEN;
         }
@@ -115,8 +118,9 @@ impl Core<'_> {
 
     #[inline(always)]
     pub fn long_branch_if(&mut self, condition: u8, step: &mut Step) {
+        let offset = step.take16();
         if self.flags.condition(condition) {
-            step.branch(step.word(1));
+            step.branch(offset);
         } else {
             step.cost = LONG_UNTAKEN;
         }
@@ -124,8 +128,9 @@ impl Core<'_> {
 
     #[inline(always)]
     pub fn branch_to_subroutine(&mut self, step: &mut Step) {
+        let offset = step.take8() as i8 as u16;
         self.push16(step.next);
-        step.branch8(1);
+        step.branch(offset);
     }
 
     #[inline(always)]
@@ -204,10 +209,11 @@ impl Core<'_> {
     }
 
     /// The six loop primitives. Bits 7 and 6 of the postbyte say whether the counter goes down,
-    /// stays or goes up, bit 5 whether to branch if it is not 0.
+    /// stays or goes up, bit 5 whether to branch if it is not 0. Bit 4 is the offset's sign.
     #[inline(always)]
     pub fn count_and_branch(&mut self, step: &mut Step) -> Result<(), Reply> {
-        let postbyte = step.byte(1);
+        let postbyte = step.take8();
+        let offset = u16::from(step.take8()) | if postbyte & 0x10 != 0 { 0xFF00 } else { 0 };
         if loop_is_reserved(postbyte) {
             return Err(Reply::ReservedPostbyte);
         }
@@ -218,7 +224,7 @@ impl Core<'_> {
             count &= 0xFF;
         }
         if (count != 0) == (postbyte & 0x20 != 0) {
-            step.branch9();
+            step.branch(offset);
         }
         Ok(())
     }
@@ -226,26 +232,43 @@ impl Core<'_> {
     /// The address of a move's first postbyte, after both have been looked at where there are
     /// two.
     #[inline(always)]
-    pub fn first_move_index(&mut self, cell: Cell, step: &Step) -> Result<u16, Reply> {
-        let (first, second) = (step.byte(1), step.byte(2));
+    pub fn first_move_index(
+        &mut self,
+        opcode: u8,
+        cell: Cell,
+        step: &mut Step,
+    ) -> Result<u16, Reply> {
+        let (first, second) = (step.take8(), step.peek8());
         let is_reserved = |postbyte| cell.cost_in(Form::of(postbyte)) == 0;
         if is_reserved(first) || cell.is_indexed_twice() && is_reserved(second) {
             return Err(Reply::ReservedPostbyte);
         }
-        let figure = MOVE_FIGURES[usize::from(step.byte(0) & 0xF)];
-        Ok(self.move_index(first, step, figure))
+        let figure = MOVE_FIGURES[usize::from(opcode & 0xF)];
+        Ok(self.move_index(first, cell, figure))
     }
 
     #[inline(always)]
-    pub fn move8_to_index(&mut self, source: u16, step: &Step) {
-        let destination = self.move_index(step.byte(2), step, DESTINATION_FIGURE);
+    pub fn move8_to_index(&mut self, source: u16, cell: Cell, step: &mut Step) {
+        let destination = self.move_index(step.take8(), cell, DESTINATION_FIGURE);
         self.write8(destination, self.read8(source));
     }
 
     #[inline(always)]
-    pub fn move16_to_index(&mut self, source: u16, step: &Step) {
-        let destination = self.move_index(step.byte(2), step, DESTINATION_FIGURE);
+    pub fn move16_to_index(&mut self, source: u16, cell: Cell, step: &mut Step) {
+        let destination = self.move_index(step.take8(), cell, DESTINATION_FIGURE);
         self.write16(destination, self.read16(source));
+    }
+
+    /// The end of a move whose source stands before the destination's address.
+    #[inline(always)]
+    pub fn put8(&mut self, value: u8, address: u16) {
+        self.write8(address, value);
+    }
+
+    /// The same with a word.
+    #[inline(always)]
+    pub fn put16(&mut self, value: u16, address: u16) {
+        self.write16(address, value);
     }
 
     /// MAXA and MINA give the larger or the smaller byte, with the codes of the subtraction.

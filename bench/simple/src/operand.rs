@@ -1,72 +1,71 @@
 //! The bytes of an instruction, and the addresses that they name.
 
 use crate::core::{Core, Memory};
-use crate::tables::{Cell, Form, FIRST_LONG};
+use crate::tables::{Cell, Form, FIRST_LONG, IDX};
 use crate::Reply;
 
 /// An instruction that is being done.
+///
+/// Its bytes are taken one after another, and `next` is counted up by numbers that the compiler
+/// knows. Had it to be added up from the lengths in the map, every step would wait for the one
+/// before it to look its length up.
 pub struct Step {
-    /// Its bytes and some that follow, the opcode highest. Of page 2 without the prebyte.
-    pub code: u64,
+    /// The bytes that are not yet taken, and some that follow, the first one highest.
+    code: u64,
     /// Where PC will be.
     pub next: u16,
-    /// What it costs.
+    /// What the instruction costs.
     pub cost: u32,
 }
 
+#[inline(always)]
+pub fn first_byte(code: u64) -> u8 {
+    (code >> 56) as u8
+}
+
 impl Step {
+    /// `code` begins with the opcode, which is taken here.
     #[inline(always)]
-    pub fn new(code: u64, cell: Cell, pc: u16) -> Step {
-        Step { code, next: pc.wrapping_add(cell.length()), cost: cell.cost() }
+    pub fn new(code: u64, after_opcode: u16, cell: Cell) -> Step {
+        Step { code: code << 8, next: after_opcode, cost: cell.cost() }
     }
 
     #[inline(always)]
-    pub fn opcode(code: u64) -> u8 {
-        (code >> 56) as u8
+    pub fn peek8(&self) -> u8 {
+        first_byte(self.code)
     }
 
-    /// The byte that stands so many bytes after the opcode.
     #[inline(always)]
-    pub fn byte(&self, place: u32) -> u8 {
-        (self.code >> (56 - 8 * place)) as u8
+    pub fn take8(&mut self) -> u8 {
+        let byte = self.peek8();
+        self.code <<= 8;
+        self.next = self.next.wrapping_add(1);
+        byte
     }
 
-    /// The word that begins so many bytes after the opcode.
     #[inline(always)]
-    pub fn word(&self, place: u32) -> u16 {
-        (self.code >> (48 - 8 * place)) as u16
+    pub fn take16(&mut self) -> u16 {
+        let word = (self.code >> 48) as u16;
+        self.code <<= 16;
+        self.next = self.next.wrapping_add(2);
+        word
     }
 
     /// The address of direct addressing.
     #[inline(always)]
-    pub fn direct(&self) -> u16 {
-        u16::from(self.byte(1))
+    pub fn direct(&mut self) -> u16 {
+        u16::from(self.take8())
+    }
+
+    /// The address of extended addressing.
+    #[inline(always)]
+    pub fn extended(&mut self) -> u16 {
+        self.take16()
     }
 
     #[inline(always)]
     pub fn branch(&mut self, offset: u16) {
         self.next = self.next.wrapping_add(offset);
-    }
-
-    /// A branch with an offset of eight bits at this place.
-    #[inline(always)]
-    pub fn branch8(&mut self, place: u32) {
-        self.branch(self.byte(place) as i8 as u16);
-    }
-
-    /// A branch of nine bits: the sign is bit 4 of a loop's postbyte.
-    #[inline(always)]
-    pub fn branch9(&mut self) {
-        let sign = if self.byte(1) & 0x10 != 0 { 0xFF00 } else { 0 };
-        self.branch(u16::from(self.byte(2)) | sign);
-    }
-
-    /// Takes the bytes out that follow a postbyte for its sake, so that what stands behind
-    /// them is found at the same place for every form.
-    #[inline(always)]
-    fn skip(&mut self, extension: u16) {
-        self.code <<= 8 * extension;
-        self.next = self.next.wrapping_add(extension);
     }
 }
 
@@ -113,26 +112,30 @@ fn fetch_around_the_end(memory: &Memory, pc: u16) -> u64 {
 }
 
 impl Core<'_> {
+    /// The address after the whole instruction, which PC stands for as a base.
+    #[inline(always)]
+    fn end_of(&self, cell: Cell, form: Form) -> u16 {
+        self.pc.wrapping_add(cell.length()).wrapping_add(form.extension)
+    }
+
     /// The operand's address by an indexed postbyte. A reserved one changes nothing.
     #[inline(always)]
     pub fn indexed(&mut self, cell: Cell, step: &mut Step) -> Result<u16, Reply> {
-        let postbyte = step.byte(1);
+        let postbyte = step.take8();
         if postbyte < FIRST_LONG {
-            return Ok(self.short_index(postbyte, step.next));
+            return Ok(self.short_index(postbyte, self.end_of(cell, IDX)));
         }
         let form = Form::of_long(postbyte);
         step.cost = cell.cost_in(form);
         if step.cost == 0 {
             return Err(Reply::ReservedPostbyte);
         }
-        let (byte, word) = (step.byte(2), step.word(2));
-        step.skip(form.extension);
-        let base = self.base(postbyte, step.next);
+        let base = self.base(postbyte, self.end_of(cell, form));
         Ok(match postbyte & 7 {
-            0 => base.wrapping_add(u16::from(byte)),
-            1 => base.wrapping_add(u16::from(byte) | 0xFF00),
-            2 => base.wrapping_add(word),
-            3 => self.read16(base.wrapping_add(word)),
+            0 => base.wrapping_add(u16::from(step.take8())),
+            1 => base.wrapping_add(u16::from(step.take8()) | 0xFF00),
+            2 => base.wrapping_add(step.take16()),
+            3 => self.read16(base.wrapping_add(step.take16())),
             7 => self.read16(base.wrapping_add(self.d())),
             _ => base.wrapping_add(self.accumulator(postbyte)),
         })
@@ -164,11 +167,11 @@ impl Core<'_> {
         }
     }
 
-    /// The address of a move's indexed side. Its postbyte is of the form IDX. PC as a base is
+    /// The address of a move's indexed side, whose postbyte is of the form IDX. PC as a base is
     /// off by a figure that depends on the move.
     #[inline(always)]
-    pub fn move_index(&mut self, postbyte: u8, step: &Step, figure: i8) -> u16 {
-        let pc = step.next.wrapping_add(figure as u16);
+    pub fn move_index(&mut self, postbyte: u8, cell: Cell, figure: i8) -> u16 {
+        let pc = self.end_of(cell, IDX).wrapping_add(figure as u16);
         if postbyte < FIRST_LONG {
             return self.short_index(postbyte, pc);
         }

@@ -79,7 +79,7 @@ pub struct Form {
 /// The least postbyte that may name another form than IDX.
 pub const FIRST_LONG: u8 = 0xE0;
 
-const IDX: Form = Form { column: 3, extension: 0 };
+pub const IDX: Form = Form { column: 3, extension: 0 };
 const IDX1: Form = Form { column: 4, extension: 1 };
 const IDX2: Form = Form { column: 5, extension: 2 };
 const D_INDIRECT: Form = Form { column: 6, extension: 0 };
