@@ -7,7 +7,7 @@ use crate::core::{Core, IX, IY};
 /// The part `fraction` / 256 of the way from the first entry to the second, rounded down.
 #[inline(always)]
 fn between(first: i32, second: i32, fraction: u8) -> i32 {
-    first + (i32::from(fraction) * (second - first) >> 8)
+    first + ((i32::from(fraction) * (second - first)) >> 8)
 }
 
 impl Core<'_> {
@@ -54,10 +54,8 @@ impl Core<'_> {
         let (dividend, divisor) = (self.d(), self.index[IX]);
         self.flags.set_v(false);
         self.flags.set_c(divisor == 0);
-        if divisor == 0 {
-            self.index[IX] = 0xFFFF;
-        } else {
-            self.index[IX] = dividend / divisor;
+        self.index[IX] = dividend.checked_div(divisor).unwrap_or(0xFFFF);
+        if divisor != 0 {
             self.set_d(dividend % divisor);
         }
         self.flags.z16(self.index[IX]);
