@@ -145,9 +145,23 @@ fn a_wait_with_both_masks_spends_the_whole_budget() {
     assert_eq!((cpu.clock, cpu.waiting, cpu.pc), (100_000_000, true, CODE + 1));
 }
 
+#[test]
+fn a_request_is_entered_at_its_very_cycle() {
+    let memory = image(&[NOP; 64]);
+    for cycle in 0..40 {
+        let (mut cpu, mut bytes) = (ready(CODE, 0, 0), memory.clone());
+        let outcome = run(&mut cpu, &mut bytes, &[at(cycle, 0x02)], cycle + 9);
+        assert_eq!(outcome, Outcome { reply: Reply::Done, cycles: cycle + 9 });
+        assert_eq!(cpu.pc, IRQ_HANDLER);
+        let return_address = u16::from_be_bytes([bytes[0x1FFE], bytes[0x1FFF]]);
+        assert_eq!(u32::from(return_address), u32::from(CODE) + cycle);
+    }
+}
+
 /// Opens the masks and waits, again and again, with instructions of many costs between.
 const BUSY: &[u8] = &[
     0x10, 0xAF, // ANDCC #$AF
+    NOP,  // so that nothing has to be looked at before EMACS but the budget
     0x18, 0x12, 0x11, 0x00, // EMACS $1100
     0xA6, 0xE8, 0x10, // LDAA 16,Y
     0x18, 0x0A, 0x30, 0x70, // MOVB 1,X+,1,Y+
@@ -155,7 +169,7 @@ const BUSY: &[u8] = &[
     0x0E, 0x00, 0x01, 0x01, // BRSET 0,X,#$01,*+1
     NOP, 0x18, 0x30, // a trap
     WAI, 0x26, 0x00, // BNE *+2
-    0x20, 0xE5, // BRA $4000
+    0x20, 0xE4, // BRA $4000
 ];
 
 #[test]
