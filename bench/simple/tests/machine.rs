@@ -150,11 +150,15 @@ fn a_request_is_entered_at_its_very_cycle() {
     let memory = image(&[NOP; 64]);
     for cycle in 0..40 {
         let (mut cpu, mut bytes) = (ready(CODE, 0, 0), memory.clone());
-        let outcome = run(&mut cpu, &mut bytes, &[at(cycle, 0x02)], cycle + 9);
-        assert_eq!(outcome, Outcome { reply: Reply::Done, cycles: cycle + 9 });
-        assert_eq!(cpu.pc, IRQ_HANDLER);
+        // The line is up at a single boundary, far from the end of the budget.
+        let outcome = run(&mut cpu, &mut bytes, &[at(cycle, 0x02), at(cycle + 1, 0)], 75);
+        assert_eq!(outcome, Outcome { reply: Reply::Done, cycles: 75 }, "cycle {cycle}");
+        // The handler has counted once, and the frame is still there below SP.
+        assert_eq!((bytes[0x1000], cpu.sp), (1, 0x2000), "cycle {cycle}");
         let return_address = u16::from_be_bytes([bytes[0x1FFE], bytes[0x1FFF]]);
         assert_eq!(u32::from(return_address), u32::from(CODE) + cycle);
+        // 75 cycles less 9 for the entry, 4 for INC and 8 for RTI.
+        assert_eq!(cpu.pc, CODE + 54, "cycle {cycle}");
     }
 }
 
