@@ -2,7 +2,7 @@
 use Prim.Native.Nat.{ℕ, zero, suc, _+_, _-_, _<_, _≤_}
 use native.Mathlib.Omega.{arith}
 use native.Mathlib.Numerals.{add-one}
-use mathlib.Core.Path.{_≡_, refl, sym, _∙_}
+use mathlib.Core.Path.{_≡_, refl, sym, _∙_, ap}
 use mathlib.Core.Bool.{Bool, true, false, _&&_}
 use mathlib.Core.List.{List, [], _∷_}
 use lib.Dec.{leb, ltb, eqb}
@@ -10,7 +10,8 @@ use lib.ListN.{length, getD, drop, drop-of-length-le, List·getD-eq-default}
 use lib.Seq.{drop-cons}
 use borrow.Author.Tests.{lt-ltb, le-ltb, ltb-true, leb-true, leb-false, le-leb, lt-leb, eqb-true}
 use Rattle.word.specs.Word.{pick}
-use Rattle.schedule.specs.Schedule.{risingAfter, rising, accepted, inForce, passed, lineBefore}
+use Rattle.schedule.specs.declared.Watch.{Watch}
+use Rattle.schedule.specs.Schedule.{risingAfter, rising, accepted, inForce, passed, lineBefore, comingAt, watchAt, Watched}
 
 -- the place is in the schedule
 pub passed-inside : (cs : List ℕ) (clock : ℕ) → passed cs clock ≤ length cs
@@ -59,6 +60,33 @@ passed-later (c ∷ cs) clock clock′ h = go (leb c clock) refl (passed-later c
     go : (b : Bool) → leb c clock ≡ b → passed cs clock ≤ passed cs clock′ → pick b (suc (passed cs clock)) 0 ≤ pick (leb c clock′) (suc (passed cs clock′)) 0
     go true e rest = let due = leb-true c clock e in rw (le-leb c clock′ (omega (arith, due, h))) (omega (arith, rest))
     go false e rest = omega arith
+
+-- until the next record comes into force the place stays
+pub passed-still : (cs : List ℕ) (clock clock′ : ℕ) → clock ≤ clock′ → clock′ < comingAt cs (passed cs clock) → passed cs clock′ ≡ passed cs clock
+unfolding passed
+passed-still [] clock clock′ h before = refl
+passed-still (c ∷ cs) clock clock′ h before = go (leb c clock) refl before (passed-still cs clock clock′ h)
+  where
+    go :
+        (b : Bool) →
+        leb c clock ≡ b →
+        clock′ < comingAt (c ∷ cs) (pick b (suc (passed cs clock)) 0) →
+        (clock′ < comingAt cs (passed cs clock) → passed cs clock′ ≡ passed cs clock) →
+        pick (leb c clock′) (suc (passed cs clock′)) 0 ≡ pick b (suc (passed cs clock)) 0
+    go true e before rest =
+        let due = leb-true c clock e in
+        rw (le-leb c clock′ (omega (arith, due, h)), rest before)
+    go false e before rest = rw (lt-leb c clock′ before)
+
+-- and that record is after the clock
+pub coming-later : (cs : List ℕ) (clock : ℕ) → clock < 4294967295 → clock < comingAt cs (passed cs clock)
+unfolding passed
+coming-later [] clock h = h
+coming-later (c ∷ cs) clock h = go (leb c clock) refl (coming-later cs clock h)
+  where
+    go : (b : Bool) → leb c clock ≡ b → clock < comingAt cs (passed cs clock) → clock < comingAt (c ∷ cs) (pick b (suc (passed cs clock)) 0)
+    go true e rest = rest
+    go false e rest = leb-false c clock e
 
 -- the parts of a conjunction that holds
 and-left : (a b : Bool) → a && b ≡ true → a ≡ true
@@ -126,6 +154,17 @@ line-of-place cs ls clock up same = in-force 0 cs ls clock up same ∙ go (passe
     go zero = refl
     go (suc k) = refl
 
+-- until the next record comes into force the line byte stays
+pub line-still :
+    (cs ls : List ℕ) (clock clock′ : ℕ) →
+    rising cs ≡ true →
+    length cs ≡ length ls →
+    clock ≤ clock′ →
+    clock′ < comingAt cs (passed cs clock) →
+    inForce 0 cs ls clock′ ≡ lineBefore ls (passed cs clock)
+line-still cs ls clock clock′ up same h before =
+    line-of-place cs ls clock′ up same ∙ ap (lineBefore ls) (passed-still cs clock clock′ h before)
+
 -- past the last record there is no line byte, and within them it is that of the record before the place
 pub line-past : (ls : List ℕ) (place : ℕ) → length ls < place → 0 ≡ lineBefore ls place
 line-past ls zero past = refl
@@ -137,6 +176,15 @@ one-less k = omega arith
 pub line-inside : (ls : List ℕ) (place : ℕ) → (place ≡ 0 → ⊥) → getD ls (place - 1) 0 ≡ lineBefore ls place
 line-inside ls zero some = absurd (some refl)
 line-inside ls (suc k) some = rw (one-less k)
+
+-- what comes at a place in the schedule is its record, and past it nothing does
+pub coming-inside : (cs : List ℕ) (place : ℕ) → place < length cs → getD cs place 0 ≡ comingAt cs place
+coming-inside [] place inside = absurd (omega (arith, inside))
+coming-inside (c ∷ cs) zero inside = refl
+coming-inside (c ∷ cs) (suc place) inside = coming-inside cs place (omega (arith, inside))
+
+pub coming-past : (cs : List ℕ) (place : ℕ) → length cs ≤ place → 4294967295 ≡ comingAt cs place
+coming-past cs place past = sym (List·getD-eq-default cs 4294967295 past)
 
 -- a walk over the cycle numbers: the next one is above the last, or it is not and they do not rise, or there is none
 pub rising-on : (cs : List ℕ) (last i : ℕ) → i < length cs → last < getD cs i 0 → risingAfter last (drop i cs) ≡ risingAfter (getD cs i 0) (drop (i + 1) cs)
@@ -160,3 +208,13 @@ pub rising-some : (cs : List ℕ) → (length cs ≡ 0 → ⊥) → risingAfter 
 unfolding rising
 rising-some [] some = absurd (some refl)
 rising-some (c ∷ cs) some = refl
+
+-- a watch stays the same until its next record is due, and its place is not behind
+pub watch-still :
+    (cs ls : List ℕ) (clock : ℕ) (w : Watch) → Watched cs ls clock w → clock < w .due → w ≡ watchAt cs ls clock
+watch-still cs ls clock w is before =
+    let same = passed-still cs (is .since) clock (is .before) (rw (is .found) at before) in
+    is .found ∙ rw same
+
+pub watch-reached : (cs ls : List ℕ) (clock : ℕ) (w : Watch) → Watched cs ls clock w → w .place ≤ passed cs clock
+watch-reached cs ls clock w is = rw (is .found) (passed-later cs (is .since) clock (is .before))

@@ -1,10 +1,12 @@
 -- The schedule (docs/MACHINE.md, "Requests" and reply 2): records, each a cycle number and a line byte, as two lists of the same length.
-use Prim.Native.Nat.{ℕ, zero, suc}
+use Prim.Native.Nat.{ℕ, zero, suc, _≤_}
+use mathlib.Core.Path.{_≡_}
 use mathlib.Core.Bool.{Bool, true, _&&_}
 use mathlib.Core.List.{List, [], _∷_}
 use lib.Dec.{leb, ltb, eqb}
 use lib.ListN.{length, getD}
 use Rattle.word.specs.Word.{pick}
+use Rattle.schedule.specs.declared.Watch.{Watch}
 
 -- the cycle numbers strictly rise, after one that is given
 unfoldable pub risingAfter : ℕ → List ℕ → Bool
@@ -38,3 +40,20 @@ passed (c ∷ cs) clock = pick (leb c clock) (suc (passed cs clock)) 0
 abbrev pub lineBefore : List ℕ → ℕ → ℕ
 lineBefore lines zero = 0
 lineBefore lines (suc k) = getD lines k 0
+
+-- the clock value at which the record at a place comes into force; past the last, one that no clock reaches
+abbrev pub comingAt : List ℕ → ℕ → ℕ
+comingAt cycles place = getD cycles place 4294967295
+
+-- where a run stands in its schedule at a clock value: the place, its line byte, and when the next record comes into force
+abbrev pub watchIs : ℕ → ℕ → ℕ → Watch
+watchIs place line due = record { place = place; line = line; due = due }
+
+abbrev pub watchAt : List ℕ → List ℕ → ℕ → Watch
+watchAt cycles lines clock = watchIs (passed cycles clock) (lineBefore lines (passed cycles clock)) (comingAt cycles (passed cycles clock))
+
+-- a watch that was found at this clock value or at one before it
+pub record Watched (cycles lines : List ℕ) (clock : ℕ) (w : Watch) : Type 0 where
+  pub since : ℕ
+  pub before : since ≤ clock
+  pub found : w ≡ watchAt cycles lines since
