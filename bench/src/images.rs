@@ -1,24 +1,50 @@
 //! The images. Each begins at $4000; $0000 to $1FFF are its data and its stack.
 
+mod blocks;
+mod waiting;
+
 use crate::program;
-use crate::CYCLES;
 use cpu12::doors::MEMORY;
 use cpu12::Record;
 
 pub struct Image {
     pub name: &'static str,
     pub memory: Vec<u8>,
-    pub schedule: Vec<Record>,
+    /// The part of its cycles that is idle.
+    pub idle: f64,
+    schedule: fn(u32) -> Vec<Record>,
+}
+
+impl Image {
+    /// The schedule of a run with this budget. The records lie at the same parts of every run, so that a short one has the shape
+    /// of a long one.
+    pub fn schedule(&self, budget: u32) -> Vec<Record> {
+        (self.schedule)(budget)
+    }
+}
+
+/// The names of the images, and how each is made of its name.
+const MAKERS: [(&str, fn(&'static str) -> Image); 7] = [
+    ("load, store, ALU", |name| plain(name, LOAD_STORE)),
+    ("branches", |name| plain(name, BRANCHES)),
+    ("multiply, divide", |name| plain(name, MULTIPLY)),
+    ("interrupts", interrupts),
+    ("random program", |name| plain(name, &program::random(1))),
+    ("waiting", waiting::image),
+    ("CRC, block copy", blocks::image),
+];
+
+pub fn names() -> impl Iterator<Item = &'static str> {
+    MAKERS.iter().map(|(name, _)| *name)
+}
+
+/// Makes this image and no other: what it takes to make one is counted with its run.
+pub fn named(name: &str) -> Option<Image> {
+    MAKERS.iter().find(|(of, _)| *of == name).map(|(of, make)| make(of))
 }
 
 pub fn all() -> Vec<Image> {
-    vec![
-        plain("load, store, ALU", LOAD_STORE),
-        plain("branches", BRANCHES),
-        plain("multiply, divide", MULTIPLY),
-        interrupts(),
-        plain("random program", &program::random(1)),
-    ]
+    names().filter_map(named).collect()
 }
 
 /// Where every image begins.
@@ -36,7 +62,16 @@ fn plain(name: &'static str, code: &[u8]) -> Image {
     let mut memory = vec![0; MEMORY];
     put(&mut memory, START, code);
     put(&mut memory, RESET_VECTOR, &START.to_be_bytes());
-    Image { name, memory, schedule: Vec::new() }
+    Image { name, memory, idle: 0.0, schedule: |_| Vec::new() }
+}
+
+/// The records of a schedule lie between so many equal parts of a run.
+const PARTS: u32 = 128;
+
+/// The record behind so many parts of a run.
+fn record(budget: u32, parts: u32, line: u8) -> Record {
+    // In a run of fewer cycles than parts the records still rise.
+    Record { cycle: (budget / PARTS).max(1) * parts, line }
 }
 
 /// A pass over 2,048 bytes, again and again.
@@ -170,17 +205,17 @@ const HANDLER_OF: [u16; 10] =
 /// The line bytes, each in force for a 64th of the run.
 const LINES: [u8; 8] = [0x02, 0x01, 0x84, 0x03, 0x80, 0x00, 0x40, 0x05];
 
-const APART: u32 = CYCLES / 64;
-
-fn interrupts() -> Image {
-    let mut image = plain("interrupts", REQUESTED);
+fn interrupts(name: &'static str) -> Image {
+    let mut image = plain(name, REQUESTED);
     for (at, handler) in &HANDLERS {
         put(&mut image.memory, *at, handler);
     }
     for (vector, handler) in (0..).map(|i| 0xFFF8 - 2 * i).zip(&HANDLER_OF) {
         put(&mut image.memory, vector, &handler.to_be_bytes());
     }
-    let record = |i: u32| Record { cycle: i * APART, line: LINES[i as usize % LINES.len()] };
-    image.schedule = (0..64).map(record).collect();
-    image
+    let schedule = |budget| {
+        let lines = LINES.iter().cycle().take(64);
+        (0..PARTS).step_by(2).zip(lines).map(|(parts, &line)| record(budget, parts, line)).collect()
+    };
+    Image { schedule, ..image }
 }
