@@ -7,29 +7,24 @@ use crate::program;
 use cpu12::doors::MEMORY;
 use cpu12::Record;
 
+/// A memory to be run from reset, with what else its run is given.
 pub struct Image {
     pub name: &'static str,
+    /// The cycles of the run. The schedule and the amounts of work are made for them, so that a short run has the shape of a long one.
+    pub budget: u32,
     pub memory: Vec<u8>,
-    /// The part of its cycles that is idle.
+    pub schedule: Vec<Record>,
+    /// The part of the cycles that is idle.
     pub idle: f64,
-    schedule: fn(u32) -> Vec<Record>,
 }
 
-impl Image {
-    /// The schedule of a run with this budget. The records lie at the same parts of every run, so that a short one has the shape
-    /// of a long one.
-    pub fn schedule(&self, budget: u32) -> Vec<Record> {
-        (self.schedule)(budget)
-    }
-}
-
-/// The names of the images, and how each is made of its name.
-const MAKERS: [(&str, fn(&'static str) -> Image); 7] = [
-    ("load, store, ALU", |name| plain(name, LOAD_STORE)),
-    ("branches", |name| plain(name, BRANCHES)),
-    ("multiply, divide", |name| plain(name, MULTIPLY)),
+/// The names of the images, and how each is made of its name and its budget.
+const MAKERS: [(&str, fn(&'static str, u32) -> Image); 7] = [
+    ("load, store, ALU", |name, budget| plain(name, budget, LOAD_STORE)),
+    ("branches", |name, budget| plain(name, budget, BRANCHES)),
+    ("multiply, divide", |name, budget| plain(name, budget, MULTIPLY)),
     ("interrupts", interrupts),
-    ("random program", |name| plain(name, &program::random(1))),
+    ("random program", |name, budget| plain(name, budget, &program::random(1))),
     ("waiting", waiting::image),
     ("CRC, block copy", blocks::image),
 ];
@@ -39,12 +34,12 @@ pub fn names() -> impl Iterator<Item = &'static str> {
 }
 
 /// Makes this image and no other: what it takes to make one is counted with its run.
-pub fn named(name: &str) -> Option<Image> {
-    MAKERS.iter().find(|(of, _)| *of == name).map(|(of, make)| make(of))
+pub fn named(name: &str, budget: u32) -> Option<Image> {
+    MAKERS.iter().find(|(of, _)| *of == name).map(|(of, make)| make(of, budget))
 }
 
-pub fn all() -> Vec<Image> {
-    names().filter_map(named).collect()
+pub fn all(budget: u32) -> Vec<Image> {
+    MAKERS.iter().map(|(name, make)| make(name, budget)).collect()
 }
 
 /// Where every image begins.
@@ -58,20 +53,11 @@ fn put(memory: &mut [u8], at: u16, bytes: &[u8]) {
 }
 
 /// Code at $4000, with the reset vector that leads there and no requests.
-fn plain(name: &'static str, code: &[u8]) -> Image {
+fn plain(name: &'static str, budget: u32, code: &[u8]) -> Image {
     let mut memory = vec![0; MEMORY];
     put(&mut memory, START, code);
     put(&mut memory, RESET_VECTOR, &START.to_be_bytes());
-    Image { name, memory, idle: 0.0, schedule: |_| Vec::new() }
-}
-
-/// The records of a schedule lie between so many equal parts of a run.
-const PARTS: u32 = 128;
-
-/// The record behind so many parts of a run.
-fn record(budget: u32, parts: u32, line: u8) -> Record {
-    // In a run of fewer cycles than parts the records still rise.
-    Record { cycle: (budget / PARTS).max(1) * parts, line }
+    Image { name, budget, memory, schedule: Vec::new(), idle: 0.0 }
 }
 
 /// A pass over 2,048 bytes, again and again.
@@ -205,17 +191,17 @@ const HANDLER_OF: [u16; 10] =
 /// The line bytes, each in force for a 64th of the run.
 const LINES: [u8; 8] = [0x02, 0x01, 0x84, 0x03, 0x80, 0x00, 0x40, 0x05];
 
-fn interrupts(name: &'static str) -> Image {
-    let mut image = plain(name, REQUESTED);
+fn interrupts(name: &'static str, budget: u32) -> Image {
+    let mut image = plain(name, budget, REQUESTED);
     for (at, handler) in &HANDLERS {
         put(&mut image.memory, *at, handler);
     }
     for (vector, handler) in (0..).map(|i| 0xFFF8 - 2 * i).zip(&HANDLER_OF) {
         put(&mut image.memory, vector, &handler.to_be_bytes());
     }
-    let schedule = |budget| {
-        let lines = LINES.iter().cycle().take(64);
-        (0..PARTS).step_by(2).zip(lines).map(|(parts, &line)| record(budget, parts, line)).collect()
-    };
-    Image { schedule, ..image }
+    // The records rise even in a run of fewer cycles than records.
+    let apart = (budget / 64).max(1);
+    let record = |i: u32| Record { cycle: i * apart, line: LINES[i as usize % LINES.len()] };
+    image.schedule = (0..64).map(record).collect();
+    image
 }

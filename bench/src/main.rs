@@ -23,18 +23,18 @@ struct Measured {
 }
 
 /// All machines in turn, so that a disturbance of the computer meets each of them.
-fn measure(image: &Image, budget: u32) -> Result<Measured, String> {
+fn measure(image: &Image) -> Result<Measured, String> {
     let [mut proved, mut simple, mut second] = [(); 3].map(|_| Timed::never());
     let mut cycles = 0;
     for round in 0..REPEATS {
-        let by_proved = trial::by_the_proved(image, budget, &mut proved);
+        let by_proved = trial::by_the_proved(image, &mut proved);
         if by_proved.reply != 0 {
             return Err(format!("{}: the proved machine replies {}", image.name, by_proved.reply));
         }
-        let by_simple = trial::by_simple(image, budget, &mut simple);
+        let by_simple = trial::by_simple(image, &mut simple);
         agree(image, &by_proved, "simple", &by_simple)?;
         if round < REPEATS_OF_SECOND {
-            let by_second = trial::by_the_second(image, budget, &mut second);
+            let by_second = trial::by_the_second(image, &mut second);
             agree(image, &by_proved, "second", &by_second)?;
         }
         cycles = by_proved.cycles;
@@ -46,9 +46,8 @@ fn measure(image: &Image, budget: u32) -> Result<Measured, String> {
 /// The error says what the other machine leaves otherwise than the proved one.
 fn agree(image: &Image, proved: &Left, other: &str, by_other: &Left) -> Result<(), String> {
     let name = image.name;
-    let pairs = proved.memory.iter().zip(&by_other.memory);
-    if let Some((address, (ours, theirs))) = (0..).zip(pairs).find(|(_, (a, b))| a != b) {
-        let address: u32 = address;
+    let mut bytes = (0_u32..).zip(proved.memory.iter().zip(&by_other.memory));
+    if let Some((address, (ours, theirs))) = bytes.find(|(_, (ours, theirs))| ours != theirs) {
         return Err(format!(
             "{name}: at ${address:04X} proved leaves ${ours:02X} and {other} ${theirs:02X}"
         ));
@@ -65,10 +64,10 @@ const WATCHED: u32 = 256_000;
 
 /// An image idles for the part of its cycles that it says, to within a hundredth of the run.
 fn idles_as_it_says(image: &Image) -> Result<(), String> {
-    let idle = trial::steps(image, WATCHED).idle;
-    let part = f64::from(idle) / f64::from(WATCHED);
+    let idle = trial::steps(image).idle;
+    let part = f64::from(idle) / f64::from(image.budget);
     if (part - image.idle).abs() > 0.01 {
-        return Err(format!("{}: {idle} cycles of {WATCHED} are idle", image.name));
+        return Err(format!("{}: {idle} of {} cycles are idle", image.name, image.budget));
     }
     Ok(())
 }
@@ -100,12 +99,11 @@ fn print_summary(all: &[Measured]) {
 }
 
 fn run(budget: u32) -> Result<(), String> {
-    let images = images::all();
-    images.iter().try_for_each(idles_as_it_says)?;
+    images::all(WATCHED).iter().try_for_each(idles_as_it_says)?;
     print_heading();
     let mut all = Vec::new();
-    for image in &images {
-        let measured = measure(image, budget)?;
+    for image in &images::all(budget) {
+        let measured = measure(image)?;
         print_line(image, &measured);
         all.push(measured);
     }

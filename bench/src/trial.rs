@@ -46,8 +46,8 @@ impl Left {
     }
 }
 
-/// A machine's run of an image with a budget.
-pub type Run = fn(&Image, u32, &mut Timed) -> Left;
+/// A machine's run of an image.
+pub type Run = fn(&Image, &mut Timed) -> Left;
 
 /// Times what a machine does with the image's memory, from its reset on, and gives what is left. The work's result is the reply, the
 /// cycles and the state.
@@ -61,22 +61,22 @@ fn left_by(
     Left { reply, cycles, state, memory }
 }
 
-pub fn by_the_proved(image: &Image, budget: u32, timed: &mut Timed) -> Left {
-    let schedule = image.schedule(budget);
+pub fn by_the_proved(image: &Image, timed: &mut Timed) -> Left {
     left_by(image, timed, |memory| {
         let mut machine = Machine::new(State::default());
-        let answer = machine.reset(memory).and_then(|_| machine.run(memory, &schedule, budget));
+        let answer =
+            machine.reset(memory).and_then(|_| machine.run(memory, &image.schedule, image.budget));
         let reply = answer.map_or_else(Error::number, |_| 0);
         (reply, machine.cycles(), machine.state())
     })
 }
 
-pub fn by_simple(image: &Image, budget: u32, timed: &mut Timed) -> Left {
+pub fn by_simple(image: &Image, timed: &mut Timed) -> Left {
     let to_record = |r: &cpu12::Record| simple::Record { cycle: r.cycle, line: r.line };
-    let schedule: Vec<_> = image.schedule(budget).iter().map(to_record).collect();
+    let schedule: Vec<_> = image.schedule.iter().map(to_record).collect();
     left_by(image, timed, |memory| {
         let (mut cpu, _) = simple::reset(memory);
-        let outcome = simple::run(&mut cpu, memory, &schedule, budget);
+        let outcome = simple::run(&mut cpu, memory, &schedule, image.budget);
         (outcome.reply.number().into(), outcome.cycles, state_of_simple(&cpu))
     })
 }
@@ -89,18 +89,18 @@ fn state_of_simple(cpu: &simple::Cpu) -> State {
     state
 }
 
-pub fn by_the_second(image: &Image, budget: u32, timed: &mut Timed) -> Left {
-    let schedule = schedule_for_the_second(image, budget);
+pub fn by_the_second(image: &Image, timed: &mut Timed) -> Left {
+    let schedule = schedule_for_the_second(image);
     left_by(image, timed, |memory| {
         let (mut cpu, _) = machine::reset(memory);
-        let outcome = machine::run(&mut cpu, memory, &schedule, budget);
+        let outcome = machine::run(&mut cpu, memory, &schedule, image.budget);
         (outcome.reply.number().into(), outcome.cycles, state_of(&cpu))
     })
 }
 
-fn schedule_for_the_second(image: &Image, budget: u32) -> Vec<machine::Record> {
+fn schedule_for_the_second(image: &Image) -> Vec<machine::Record> {
     let to_record = |r: &cpu12::Record| machine::Record { cycle: r.cycle, lines: r.line };
-    image.schedule(budget).iter().map(to_record).collect()
+    image.schedule.iter().map(to_record).collect()
 }
 
 /// What a run consists of. An idle cycle is a step too.
@@ -110,12 +110,12 @@ pub struct Steps {
     pub idle: u32,
 }
 
-pub fn steps(image: &Image, budget: u32) -> Steps {
+pub fn steps(image: &Image) -> Steps {
     let mut memory = image.memory.clone();
     let (mut cpu, _) = machine::reset(&memory);
-    let schedule = schedule_for_the_second(image, budget);
+    let schedule = schedule_for_the_second(image);
     let mut steps = Steps::default();
-    machine::run_watched(&mut cpu, &mut memory, &schedule, budget, &mut |_, _, next| {
+    machine::run_watched(&mut cpu, &mut memory, &schedule, image.budget, &mut |_, _, next| {
         steps.all += 1;
         steps.idle += u32::from(matches!(next, Next::Do(effect) if effect.kind == Kind::Idle));
     });

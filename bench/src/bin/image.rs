@@ -8,12 +8,9 @@ const USAGE: &str = "usage: image names
        image run MACHINE NAME CYCLES   on the machine 'proved' or 'simple' alone
        image steps NAME CYCLES         prints how many steps the run takes; an idle cycle is one";
 
-fn named(name: &str) -> Result<Image, String> {
-    images::named(name).ok_or_else(|| format!("there is no image '{name}'"))
-}
-
-fn number(word: &str) -> Result<u32, String> {
-    word.parse().map_err(|_| USAGE.to_string())
+fn image(name: &str, cycles: &str) -> Result<Image, String> {
+    let budget = cycles.parse().map_err(|_| USAGE.to_string())?;
+    images::named(name, budget).ok_or_else(|| format!("there is no image '{name}'"))
 }
 
 fn machine(name: &str) -> Result<Run, String> {
@@ -24,8 +21,8 @@ fn machine(name: &str) -> Result<Run, String> {
     }
 }
 
-fn run(run: Run, image: &Image, budget: u32) -> Result<(), String> {
-    match run(image, budget, &mut Timed::never()).reply {
+fn run(run: Run, image: &Image) -> Result<(), String> {
+    match run(image, &mut Timed::never()).reply {
         0 => Ok(()),
         reply => Err(format!("{}: the machine replies {reply}", image.name)),
     }
@@ -34,8 +31,8 @@ fn run(run: Run, image: &Image, budget: u32) -> Result<(), String> {
 fn answer(words: &[&str]) -> Result<(), String> {
     match words {
         ["names"] => images::names().for_each(|name| println!("{name}")),
-        ["run", by, name, cycles] => run(machine(by)?, &named(name)?, number(cycles)?)?,
-        ["steps", name, cycles] => println!("{}", trial::steps(&named(name)?, number(cycles)?).all),
+        ["run", by, name, cycles] => run(machine(by)?, &image(name, cycles)?)?,
+        ["steps", name, cycles] => println!("{}", trial::steps(&image(name, cycles)?).all),
         _ => return Err(USAGE.to_string()),
     }
     Ok(())

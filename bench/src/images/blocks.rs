@@ -53,8 +53,8 @@ fn remainder(byte: u8) -> u16 {
     (0..8).fold(u16::from(byte) << 8, |crc, _| shifted(crc))
 }
 
-pub fn image(name: &'static str) -> Image {
-    let mut image = plain(name, CODE);
+pub fn image(name: &'static str, budget: u32) -> Image {
+    let mut image = plain(name, budget, CODE);
     let table: Vec<u8> = (0..=0xFF).flat_map(|byte| remainder(byte).to_be_bytes()).collect();
     put(&mut image.memory, TABLE_AT, &table);
     image

@@ -1,28 +1,41 @@
 //! A main loop with WAI, woken by a device line.
 //!
-//! The device's line is up for a quarter of each 32nd of a run, and the program has nothing else to do. While the line is up every wait
-//! ends at once, with a turn of work behind it; while it is down the machine idles.
+//! In each 32nd part of a run the device asks once. The program is woken, works for a quarter of the time that there is until the device
+//! asks again, and waits.
 
-use super::{plain, put, record, Image, PARTS};
+use super::{plain, put, Image};
 use cpu12::Record;
 
-/// A turn, from the end of a wait to the end of the next WAI, takes 100 cycles: 6 for the end of the wait and 12 for the handler, then
-/// 72 for the work, 3 for BRA and 7 for WAI.
 #[rustfmt::skip]
 const MAIN: &[u8] = &[
     0xCF, 0x20, 0x00, // 4000 LDS   #$2000
-    0x10, 0xEF,       // 4003 ANDCC #$EF
-    0x3E,             // 4005 WAI
-    0xCE, 0x10, 0x10, // 4006 LDX   #$1010
-    0xB6, 0x10, 0x00, //      LDAA  $1000
+    0x10, 0xEF,       //      ANDCC #$EF
+    0xFD, 0x10, 0x02, // 4005 LDY   $1002
+    0xCE, 0x11, 0x00, //      LDX   #$1100
+    0xF6, 0x10, 0x04, //      LDAB  $1004
+    0x72, 0x10, 0x06, //      INC   $1006
+    0xA6, 0xE5,       // 4011 LDAA  B,X
+    0xBB, 0x10, 0x00, //      ADDA  $1000
+    0xA9, 0x01,       //      ADCA  1,X
+    0x45,             //      ROLA
+    0x6A, 0xE5,       //      STAA  B,X
+    0x52,             //      INCB
+    0x7B, 0x10, 0x04, //      STAB  $1004
     0x41,             //      COMA
-    0x47,             //      ASRA
-    0xC6, 0x08,       //      LDAB  #8
-    0xAB, 0x00,       // 4010 ADDA  0,X
-    0x6A, 0x30,       //      STAA  1,X+
-    0x04, 0x31, 0xF9, //      DBNE  B,$4010
-    0x20, 0xEC,       //      BRA   $4005
+    0x04, 0x36, 0xEE, //      DBNE  Y,$4011
+    0x3E,             //      WAI
+    0x20, 0xDF,       //      BRA   $4005
 ];
+
+/// The word that holds how many turns of the inner loop the program works for.
+const TURNS_AT: u16 = 0x1002;
+
+/// The cycles of a turn.
+const TURN: u32 = 20;
+
+/// The cycles of all else from the end of a wait to the end of WAI: 6 for the end of the wait, 12 for the handler, 3 for BRA, 12 for
+/// what stands before the inner loop, and 7 for WAI.
+const AROUND: u32 = 40;
 
 const HANDLER_AT: u16 = 0x4100;
 
@@ -36,14 +49,22 @@ const HANDLER: &[u8] = &[
 const DEVICE: u8 = 0x04;
 const VECTOR: u16 = 0xFFF0;
 
-pub fn image(name: &'static str) -> Image {
-    let mut image = plain(name, MAIN);
+/// How often the device asks: two records each, and a schedule has 64.
+const REQUESTS: u32 = 32;
+
+/// How long the device's line is up. It has to be entered before it falls, and to fall before the handler is left.
+const UP: u32 = 12;
+
+pub fn image(name: &'static str, budget: u32) -> Image {
+    let apart = (budget / REQUESTS).max(2 * UP);
+    let turns = (apart / 4).saturating_sub(AROUND) / TURN;
+    let mut image = plain(name, budget, MAIN);
     put(&mut image.memory, HANDLER_AT, HANDLER);
     put(&mut image.memory, VECTOR, &HANDLER_AT.to_be_bytes());
-    Image { idle: 0.75, schedule, ..image }
-}
-
-fn schedule(budget: u32) -> Vec<Record> {
-    let up_and_down = |parts| [record(budget, parts, DEVICE), record(budget, parts + 1, 0)];
-    (0..PARTS).step_by(4).flat_map(up_and_down).collect()
+    put(&mut image.memory, TURNS_AT, &(turns.max(1) as u16).to_be_bytes());
+    let up_and_down = |cycle| [(cycle, DEVICE), (cycle + UP, 0)];
+    let records = (0..REQUESTS).flat_map(|i| up_and_down(i * apart));
+    image.schedule = records.map(|(cycle, line)| Record { cycle, line }).collect();
+    image.idle = 0.75;
+    image
 }
