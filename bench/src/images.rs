@@ -18,8 +18,10 @@ pub struct Image {
     pub idle: f64,
 }
 
-/// The names of the images, and how each is made of its name and its budget.
-const MAKERS: [(&str, fn(&'static str, u32) -> Image); 7] = [
+/// Makes an image of its name and its budget.
+type Maker = fn(&'static str, u32) -> Image;
+
+const MAKERS: [(&str, Maker); 7] = [
     ("load, store, ALU", |name, budget| plain(name, budget, LOAD_STORE)),
     ("branches", |name, budget| plain(name, budget, BRANCHES)),
     ("multiply, divide", |name, budget| plain(name, budget, MULTIPLY)),
