@@ -1,24 +1,47 @@
 //! The images. Each begins at $4000; $0000 to $1FFF are its data and its stack.
 
+mod blocks;
+mod waiting;
+
 use crate::program;
-use crate::CYCLES;
 use cpu12::doors::MEMORY;
 use cpu12::Record;
 
+/// A memory to be run from reset, with what else its run is given.
 pub struct Image {
     pub name: &'static str,
+    /// The cycles of the run. The schedule and the amounts of work are made for them, so that a short run has the shape of a long one.
+    pub budget: u32,
     pub memory: Vec<u8>,
     pub schedule: Vec<Record>,
+    /// The part of the cycles that is idle.
+    pub idle: f64,
 }
 
-pub fn all() -> Vec<Image> {
-    vec![
-        plain("load, store, ALU", LOAD_STORE),
-        plain("branches", BRANCHES),
-        plain("multiply, divide", MULTIPLY),
-        interrupts(),
-        plain("random program", &program::random(1)),
-    ]
+/// Makes an image of its name and its budget.
+type Maker = fn(&'static str, u32) -> Image;
+
+const MAKERS: [(&str, Maker); 7] = [
+    ("load, store, ALU", |name, budget| plain(name, budget, LOAD_STORE)),
+    ("branches", |name, budget| plain(name, budget, BRANCHES)),
+    ("multiply, divide", |name, budget| plain(name, budget, MULTIPLY)),
+    ("interrupts", interrupts),
+    ("random program", |name, budget| plain(name, budget, &program::random(1))),
+    ("waiting", waiting::image),
+    ("CRC, block copy", blocks::image),
+];
+
+pub fn names() -> impl Iterator<Item = &'static str> {
+    MAKERS.iter().map(|(name, _)| *name)
+}
+
+/// Makes this image and no other: what it takes to make one is counted with its run.
+pub fn named(name: &str, budget: u32) -> Option<Image> {
+    MAKERS.iter().find(|(of, _)| *of == name).map(|(of, make)| make(of, budget))
+}
+
+pub fn all(budget: u32) -> Vec<Image> {
+    MAKERS.iter().map(|(name, make)| make(name, budget)).collect()
 }
 
 /// Where every image begins.
@@ -32,11 +55,11 @@ fn put(memory: &mut [u8], at: u16, bytes: &[u8]) {
 }
 
 /// Code at $4000, with the reset vector that leads there and no requests.
-fn plain(name: &'static str, code: &[u8]) -> Image {
+fn plain(name: &'static str, budget: u32, code: &[u8]) -> Image {
     let mut memory = vec![0; MEMORY];
     put(&mut memory, START, code);
     put(&mut memory, RESET_VECTOR, &START.to_be_bytes());
-    Image { name, memory, schedule: Vec::new() }
+    Image { name, budget, memory, schedule: Vec::new(), idle: 0.0 }
 }
 
 /// A pass over 2,048 bytes, again and again.
@@ -170,17 +193,17 @@ const HANDLER_OF: [u16; 10] =
 /// The line bytes, each in force for a 64th of the run.
 const LINES: [u8; 8] = [0x02, 0x01, 0x84, 0x03, 0x80, 0x00, 0x40, 0x05];
 
-const APART: u32 = CYCLES / 64;
-
-fn interrupts() -> Image {
-    let mut image = plain("interrupts", REQUESTED);
+fn interrupts(name: &'static str, budget: u32) -> Image {
+    let mut image = plain(name, budget, REQUESTED);
     for (at, handler) in &HANDLERS {
         put(&mut image.memory, *at, handler);
     }
     for (vector, handler) in (0..).map(|i| 0xFFF8 - 2 * i).zip(&HANDLER_OF) {
         put(&mut image.memory, vector, &handler.to_be_bytes());
     }
-    let record = |i: u32| Record { cycle: i * APART, line: LINES[i as usize % LINES.len()] };
+    // The records rise even in a run of fewer cycles than records.
+    let apart = (budget / 64).max(1);
+    let record = |i: u32| Record { cycle: i * apart, line: LINES[i as usize % LINES.len()] };
     image.schedule = (0..64).map(record).collect();
     image
 }

@@ -1,6 +1,8 @@
 //! A simple, fast interpreter of the CPU12 in its HCS12 edition, by the rules of
 //! docs/MACHINE.md: a struct of registers, a match on the opcode, and tables of lengths and
-//! costs. It is the yardstick that the speed of other machines is held against.
+//! costs. It is the yardstick that the speed of the proved machine is held against
+//! (docs/SPEED.md): what a Rust programmer would write who wants it fast and safe. It is not
+//! `second/`, which follows the manual word by word and is slow on purpose.
 
 #![forbid(unsafe_code)]
 
@@ -91,17 +93,18 @@ fn refused(reply: Reply) -> Outcome {
 /// The state after a reset. PC is 0 where the memory is refused.
 pub fn reset(memory: &[u8]) -> (Cpu, Reply) {
     let after = |pc| Cpu { pc, ccr: RESET_CCR, ..Cpu::default() };
-    let Ok(memory) = <&Memory>::try_from(memory) else {
-        return (after(0), Reply::WrongMemory);
-    };
     let high = usize::from(RESET_VECTOR);
-    (after(u16::from_be_bytes([memory[high], memory[high + 1]])), Reply::Done)
+    match <&Memory>::try_from(memory) {
+        Ok(memory) => (after(u16::from_be_bytes([memory[high], memory[high + 1]])), Reply::Done),
+        Err(_) => (after(0), Reply::WrongMemory),
+    }
 }
 
 /// One step, as a run whose budget is exactly what the step costs.
 pub fn step(cpu: &mut Cpu, memory: &mut [u8], line: u8) -> Outcome {
-    let Ok(memory) = <&mut Memory>::try_from(memory) else {
-        return refused(Reply::WrongMemory);
+    let memory = match <&mut Memory>::try_from(memory) {
+        Ok(memory) => memory,
+        Err(_) => return refused(Reply::WrongMemory),
     };
     if cpu.clock > MOST_STEP_CLOCK {
         return refused(Reply::PastLimit);
@@ -118,8 +121,9 @@ pub fn step(cpu: &mut Cpu, memory: &mut [u8], line: u8) -> Outcome {
 
 /// Steps until the budget is too short for the next one, or the machine stops.
 pub fn run(cpu: &mut Cpu, memory: &mut [u8], schedule: &[Record], budget: u32) -> Outcome {
-    let Ok(memory) = <&mut Memory>::try_from(memory) else {
-        return refused(Reply::WrongMemory);
+    let memory = match <&mut Memory>::try_from(memory) {
+        Ok(memory) => memory,
+        Err(_) => return refused(Reply::WrongMemory),
     };
     let rises = schedule.windows(2).all(|pair| pair[0].cycle < pair[1].cycle);
     if schedule.len() > MOST_RECORDS || !rises {

@@ -98,9 +98,10 @@ fn stepped(register: &mut u16, postbyte: u8) -> u16 {
 /// The bytes at PC, the first one highest.
 #[inline(always)]
 pub fn fetch(memory: &Memory, pc: u16) -> u64 {
-    match memory[usize::from(pc)..].first_chunk() {
-        Some(&bytes) => u64::from_be_bytes(bytes),
-        None => fetch_around_the_end(memory, pc),
+    let at = usize::from(pc);
+    match memory.get(at..at + 8).map(<[u8; 8]>::try_from) {
+        Some(Ok(bytes)) => u64::from_be_bytes(bytes),
+        _ => fetch_around_the_end(memory, pc),
     }
 }
 

@@ -1,60 +1,41 @@
-//! One image for a number of cycles, for tools/host_instructions: the run on the proved machine alone, and how many steps it takes.
+//! One image for a number of cycles, for tools/count_instructions: the run on one machine alone, and how many steps it takes.
 #![cfg_attr(feature = "plain_start", no_main)]
 
 use bench::images::{self, Image};
-use bench::trial::{self, Timed};
+use bench::trial::{self, Run, Timed};
 
 const USAGE: &str = "usage: image names
-       image run NAME CYCLES     on the proved machine alone
-       image steps NAME CYCLES   prints how many steps the run takes";
+       image run MACHINE NAME CYCLES   on the machine 'proved' or 'simple' alone
+       image steps NAME CYCLES         prints how many steps the run takes; an idle cycle is one";
 
-fn named(name: &str) -> Result<Image, String> {
-    let found = images::all().into_iter().find(|image| image.name == name);
-    found.ok_or_else(|| format!("there is no image '{name}'"))
+fn image(name: &str, cycles: &str) -> Result<Image, String> {
+    let budget = cycles.parse().map_err(|_| USAGE.to_string())?;
+    images::named(name, budget).ok_or_else(|| format!("there is no image '{name}'"))
 }
 
-fn number(word: &str) -> Result<u32, String> {
-    word.parse().map_err(|_| USAGE.to_string())
-}
-
-fn run(image: &Image, budget: u32) -> Result<(), String> {
-    let left = trial::by_the_proved(image, budget, &mut Timed::never());
-    if left.reply != 0 {
-        return Err(format!("{}: the proved machine replies {}", image.name, left.reply));
+fn machine(name: &str) -> Result<Run, String> {
+    match name {
+        "proved" => Ok(trial::by_the_proved),
+        "simple" => Ok(trial::by_simple),
+        _ => Err(USAGE.to_string()),
     }
-    Ok(())
+}
+
+fn run(run: Run, image: &Image) -> Result<(), String> {
+    match run(image, &mut Timed::never()).reply {
+        0 => Ok(()),
+        reply => Err(format!("{}: the machine replies {reply}", image.name)),
+    }
 }
 
 fn answer(words: &[&str]) -> Result<(), String> {
     match words {
-        ["names"] => images::all().iter().for_each(|image| println!("{}", image.name)),
-        ["run", name, cycles] => run(&named(name)?, number(cycles)?)?,
-        ["steps", name, cycles] => println!("{}", trial::steps(&named(name)?, number(cycles)?)),
+        ["names"] => images::names().for_each(|name| println!("{name}")),
+        ["run", by, name, cycles] => run(machine(by)?, &image(name, cycles)?)?,
+        ["steps", name, cycles] => println!("{}", trial::steps(&image(name, cycles)?).all),
         _ => return Err(USAGE.to_string()),
     }
     Ok(())
 }
 
-/// The exit status.
-fn answered() -> i32 {
-    let words: Vec<String> = std::env::args().skip(1).collect();
-    match answer(&words.iter().map(String::as_str).collect::<Vec<_>>()) {
-        Ok(()) => 0,
-        Err(message) => {
-            eprintln!("{message}");
-            1
-        }
-    }
-}
-
-#[cfg(not(feature = "plain_start"))]
-fn main() {
-    std::process::exit(answered());
-}
-
-/// The start for the emulator that stands in for x86-64 on another processor: Rust's own does not run there.
-#[cfg(feature = "plain_start")]
-#[no_mangle]
-pub extern "C" fn main() -> std::os::raw::c_int {
-    answered()
-}
+bench::main_that_does!(answer);
