@@ -88,7 +88,8 @@ pub fn go(
             break answered(Reply::Done, s, s.clock - start.clock);
         }
         watch = schedule::next_watch(cycles, lines, watch, s.clock);
-        let idle = idle_cycles(s, watch, end - s.clock, more);
+        let left = end - s.clock;
+        let idle = idle_cycles(s, watch, left, more);
         if idle > 0 {
             s = s.with_clock(s.clock + idle);
             more = more - idle;
@@ -101,7 +102,7 @@ pub fn go(
         }
         let done = next.effect;
         let cost = done.cost as u32;
-        if end - s.clock < cost {
+        if left < cost {
             break answered(Reply::Done, s, s.clock - start.clock);
         }
         s = effect::act(s, m, done);

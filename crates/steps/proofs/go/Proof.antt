@@ -35,8 +35,8 @@ sub-answered c = c .before .before .before .loop .inv .since
 next-watch-requires : tie.Need-next-watch-requires Inv-loop μ-loop
 next-watch-requires c κs = c .before .loop .inv .watched
 
-sub-idle-cycles : tie.Need-sub-idle-cycles Inv-loop μ-loop
-sub-idle-cycles c = c .before .before .before .loop .inv .until
+sub-left : tie.Need-sub-left Inv-loop μ-loop
+sub-left c = c .before .before .before .loop .inv .until
 
 idle-cycles-requires : tie.Need-idle-cycles-requires Inv-loop μ-loop
 idle-cycles-requires c κs =
@@ -104,33 +104,30 @@ turn-is found =
 sub-answered-2 : tie.Need-sub-answered-2 Inv-loop μ-loop
 sub-answered-2 c = c .before .before .before .before .before .before .before .before .before .before .before .loop .inv .since
 
-sub-if4 : tie.Need-sub-if4 Inv-loop μ-loop
-sub-if4 c = c .before .before .before .before .before .before .before .before .before .before .before .before .loop .inv .until
-
 sub-answered-3 : tie.Need-sub-answered-3 Inv-loop μ-loop
-sub-answered-3 c = c .before .before .before .before .before .before .before .before .before .before .before .before .before .before .before .loop .inv .since
+sub-answered-3 c = c .before .before .before .before .before .before .before .before .before .before .before .before .before .before .loop .inv .since
 
 act-requires : tie.Need-act-requires Inv-loop μ-loop
 act-requires c κs =
     let fits = c .before in
-    let now = fits .before .before .before .before .before .before .before .before .before .before .before .before .before in
+    let now = fits .before .before .before .before .before .before .before .before .before .before .before .before in
     (now .loop .inv .whole, omega (arith, fits .if4 .left, start now .pre .1 .1 .1 .1 .1, now .loop .inv .until))
 
 sub-more-2 : tie.Need-sub-more-2 Inv-loop μ-loop
-sub-more-2 c = omega (arith, c .before .before .before .before .before .before .before .before .before .before .before .before .before .before .before .before .if1 .left)
+sub-more-2 c = omega (arith, c .before .before .before .before .before .before .before .before .before .before .before .before .before .before .before .if1 .left)
 
 loop-less-2 : tie.Need-loop-less-2 Inv-loop μ-loop
-loop-less-2 c = omega (arith, c .before .before .before .before .before .before .before .before .before .before .before .before .before .before .before .before .if1 .left)
+loop-less-2 c = omega (arith, c .before .before .before .before .before .before .before .before .before .before .before .before .before .before .before .if1 .left)
 
 loop-again-2 : tie.Need-loop-again-2 Inv-loop μ-loop
 loop-again-2 c =
     let acted = c .before .before in
     let fits = acted .before .before in
-    let asked = fits .before .before .before .before .before in
+    let asked = fits .before .before .before .before in
     let found = asked .before in
     let watched = found .before .before .before .before .before in
     let goes = watched .before in
-    let done = sym (asked .number .ensures) ∙ fits .before .before .before .before .if3 .left in
+    let done = sym (asked .number .ensures) ∙ fits .before .before .before .if3 .left in
     turned (goes .before .loop .inv) _ (watched .next-watch .ensures) (goes .if1 .left) (found .turn-at .result) _ _ (turn-is found) done
     (fits .if4 .left) (acted .act .ensures .0) (acted .act .ensures .1)
 
@@ -156,15 +153,15 @@ stopped c =
     _ (c .answered2 .ensures .0) (c .answered2 .ensures .1 .0) (c .answered2 .ensures .1 .1)
 
 same-length-3 : tie.Need-same-length-3 Inv-loop μ-loop
-same-length-3 c = c .before .before .before .before .before .before .before .before .before .before .before .before .before .before .before .before .loop .inv .same
+same-length-3 c = c .before .before .before .before .before .before .before .before .before .before .before .before .before .before .before .loop .inv .same
 
 spent : tie.Need-returns-3 Inv-loop μ-loop
 spent c =
     let short = c .before .before .before in
-    let asked = short .before .before .before .before .before in
+    let asked = short .before .before .before .before in
     let found = asked .before in
     let goes = found .before .before .before .before .before .before in
-    let done = sym (asked .number .ensures) ∙ short .before .before .before .before .if3 .left in
+    let done = sym (asked .number .ensures) ∙ short .before .before .before .if3 .left in
     ends-spent _ (goes .before .loop .inv) (goes .if1 .left) (found .turn-at .result) (turn-is found) done (short .if4 .taken)
     _ (c .answered3 .ensures .0) (c .answered3 .ensures .1 .0) (c .answered3 .ensures .1 .1)
 
@@ -180,7 +177,7 @@ go-spec =
     sub-answered
     (λ c κs. search needs)
     next-watch-requires
-    sub-idle-cycles
+    sub-left
     idle-cycles-requires
     add-with-clock
     (λ c κs. search needs)
@@ -192,7 +189,6 @@ go-spec =
     sub-answered-2
     (λ c κs. search needs)
     (λ c. search needs)
-    sub-if4
     sub-answered-3
     (λ c κs. search needs)
     act-requires
