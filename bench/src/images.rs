@@ -3,6 +3,8 @@
 mod blocks;
 mod waiting;
 
+pub use waiting::asleep;
+
 use crate::program;
 use cpu12::doors::MEMORY;
 use cpu12::Record;

@@ -1,4 +1,4 @@
-//! A main loop with WAI, woken by a device line.
+//! A main loop with WAI, woken by a device line; and a wait that nothing ends.
 //!
 //! In each 32nd part of a run the device asks once. The program is woken, works for a quarter of the time that there is until the device
 //! asks again, and waits.
@@ -66,5 +66,15 @@ pub fn image(name: &'static str, budget: u32) -> Image {
     let records = (0..REQUESTS).flat_map(|i| up_and_down(i * apart));
     image.schedule = records.map(|(cycle, line)| Record { cycle, line }).collect();
     image.idle = 0.75;
+    image
+}
+
+/// WAI with both masks set, as a reset leaves them, under as many records as a schedule may have: each is met, and none ends the wait.
+pub fn asleep(budget: u32) -> Image {
+    let mut image = plain("asleep", budget, &[0x3E]); // WAI
+    let apart = budget / (2 * REQUESTS);
+    let record = |i: u32| Record { cycle: i * apart, line: if i % 2 == 0 { DEVICE } else { 0 } };
+    image.schedule = (0..2 * REQUESTS).map(record).collect();
+    image.idle = 1.0;
     image
 }
