@@ -113,11 +113,24 @@ fn store_number(m: &mut [u8], start: u16, count: u8, number: u64)
     }
 }
 
-// The one place where the memory changes. A count past nine stores the nine.
+// The one place where the memory changes. A count past nine stores the nine. Most steps store nothing, a byte or a word: these three are
+// asked for first, in this order, and are stored without a loop (docs/SPEED.md).
 pub fn commit(m: &mut [u8], w: Store)
     requires { ⌜ length (now m) ≡ 65536 ⌝ }
     ensures { λ _. ⌜ now (m .exit) ≡ committed (now (m .entry)) w ⌝ }
 {
+    if w.count == 0 {
+        return;
+    }
+    if w.count == 1 {
+        m[w.at as usize] = nth_byte(w.number, 0);
+        return;
+    }
+    if w.count == 2 {
+        m[w.at as usize] = nth_byte(w.number, 1);
+        m[next(w.at) as usize] = nth_byte(w.number, 0);
+        return;
+    }
     if w.count > 8 {
         m[w.at as usize] = w.first;
         store_number(m, next(w.at), 8, w.number);
