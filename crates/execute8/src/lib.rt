@@ -8,6 +8,7 @@ use results::Byte;
 use state::Flags;
 use state::State;
 ghost use mathlib.Core.Path.{_≡_};
+ghost use Rattle.word.specs.Word.{pick};
 ghost use Rattle.execute8.specs.Bytes.{keeping as keepingOf, loadedByte, accumulated as accumulatedOf, changed as changedOf, aResult, bResult, aWith, bWith, memoryChanged, aChanged, bChanged};
 
 // The codes of a comparison, with the register as it was.
@@ -80,20 +81,22 @@ pub fn b_result(s: State, r: Byte) -> State
     s.with_b(r.value).with_flags(flags)
 }
 
-pub fn with_a(s: State, kind: u16, v: u8, cost: u8) -> Effect
-    ensures { λ r. ⌜ r ≡ aWith s kind v cost ⌝ }
+// SUBA to ADDB: the operand with A, or with B where `second` says so. One function for both, so that `accumulated` has one caller: the
+// compiler then takes it into the machine's loop (docs/SPEED.md).
+pub fn with_accumulator(second: bool, s: State, kind: u16, v: u8, cost: u8) -> Effect
+    ensures { λ r. ⌜ r ≡ pick second (bWith s kind v cost) (aWith s kind v cost) ⌝ }
 {
     let f = s.flags;
     let member = opcodes::member_of(kind);
-    effect::quiet(a_result(s, accumulated(member, f, s.a, v)), cost)
-}
-
-pub fn with_b(s: State, kind: u16, v: u8, cost: u8) -> Effect
-    ensures { λ r. ⌜ r ≡ bWith s kind v cost ⌝ }
-{
-    let f = s.flags;
-    let member = opcodes::member_of(kind);
-    effect::quiet(b_result(s, accumulated(member, f, s.b, v)), cost)
+    let mut x = s.a;
+    if second {
+        x = s.b;
+    }
+    let r = accumulated(member, f, x, v);
+    if second {
+        return effect::quiet(b_result(s, r), cost);
+    }
+    effect::quiet(a_result(s, r), cost)
 }
 
 // `v` is the byte at the address `a`.
