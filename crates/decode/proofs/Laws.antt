@@ -22,7 +22,7 @@ use Rattle.decode.specs.declared.Opcode.{Opcode}
 use Rattle.decode.specs.declared.Decoded.{Decoded}
 use Rattle.decode.specs.declared.Fetched.{Fetched}
 use Rattle.decode.specs.declared.Fetched.the-variants.{Stop, Reserved, Instruction}
-use Rattle.decode.specs.Decode.{onPageTwo, cellAt, afterOpcode, opcodeAt, reservedAt, decodedOf, plainOf, fetchedOf, Faithful, FetchedFaithfully, StopFetched, BareFetched, RegistersFetched, ControlFetched, OperandFetched}
+use Rattle.decode.specs.Decode.{onPageTwo, cellAt, afterOpcode, opcodeAt, reservedAt, decodedOf, plainOf, fetchedOf, Faithful, FetchedFaithfully, StopFetched, BareFetched, RegistersFetched, ControlFetched, OperandFetched, FetchedKind}
 
 -- a property of the instruction that was fetched, if one was
 Of : (Decoded → Type 0) → Fetched → Type 0
@@ -175,3 +175,15 @@ operand-fetched m pc o is group =
       ne-eqb (o .cell .kind) LOOP (λ e. true≢false (rw e at group)),
       if-both (indexedOf (o .cell)) (formReserved (o .cell) (byteAt m (o .at))),
     )
+
+pub fetched-kind : FetchedKind
+unfolding fetchedOf Of
+fetched-kind m pc d is = rw is at (go (stopsOf (cellAt m pc)) (reservedAt m (cellAt m pc) (afterOpcode m pc)))
+  where
+    go :
+        (st rs : Bool) →
+        Of (λ d. d .kind ≡ cellAt m pc .kind)
+        (pick st Stop (pick rs Reserved (Instruction (decodedOf m pc (cellAt m pc) (afterOpcode m pc)))))
+    go true rs = tt
+    go false true = tt
+    go false false = refl

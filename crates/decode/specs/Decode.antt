@@ -12,7 +12,7 @@ use Rattle.opcodes.specs.Kind.{TFR/EXG, LOOP, groupOf, STOPS, REGISTERS, CONTRO
 use Rattle.opcodes.specs.Mode.{ID, ID-ID}
 use Rattle.opcodes.specs.Map.{cellOf, cellNumber}
 use Rattle.opcodes.specs.Postbyte.{IDX, formOf, indexedOf, transferReserved, loopReserved, formReserved, reservedOf, lengthIn, costOf, untakenOf}
-use Rattle.opcodes.specs.Rules.{stopsOf, movesMode, plainGroup, bareGroup}
+use Rattle.opcodes.specs.Rules.{stopsOf, movesMode, bareGroup, unplaced}
 use Rattle.decode.specs.declared.Opcode.{Opcode}
 use Rattle.decode.specs.declared.Decoded.{Decoded}
 use Rattle.decode.specs.declared.Fetched.{Fetched}
@@ -139,7 +139,11 @@ abbrev pub OperandFetched : Type 0
 OperandFetched =
     (m : List ℕ) (pc : ℕ) (o : Opcode) →
     o ≡ opcodeAt m pc →
-    eqb (groupOf (o .cell .kind)) STOPS || (eqb (groupOf (o .cell .kind)) MOVES || plainGroup (groupOf (o .cell .kind))) ≡ false →
+    unplaced (groupOf (o .cell .kind)) ≡ false →
     fetchedOf m pc
     ≡ pick (indexedOf (o .cell) && formReserved (o .cell) (byteAt m (o .at))) Reserved
     (Instruction (decodedOf m pc (o .cell) (o .at)))
+
+-- and an instruction that is fetched is of the cell that stands there
+abbrev pub FetchedKind : Type 0
+FetchedKind = (m : List ℕ) (pc : ℕ) (d : Decoded) → fetchedOf m pc ≡ Instruction d → d .kind ≡ cellAt m pc .kind

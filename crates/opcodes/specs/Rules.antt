@@ -138,3 +138,7 @@ PlainUnindexed = (k : ℕ) → plainGroup (groupOf (cellOf k .kind)) ≡ true �
 -- the first group has what stops and the prebyte, and nothing else
 abbrev pub FirstGroupStops : Type 0
 FirstGroupStops = (k : ℕ) → prebyteCell k ≡ false → groupOf (cellOf k .kind) ≡ STOPS → stopsOf (cellOf k) ≡ true
+
+-- the groups of the instructions that have no operand at a place in memory, or two: each other group works on one
+abbrev pub unplaced : ℕ → Bool
+unplaced group = eqb group STOPS || (eqb group MOVES || plainGroup group)
