@@ -2,17 +2,17 @@
 -- (docs/MACHINE.md, "Numbered replies", 4 and 5; "Reserved postbytes"; "Steps and cycles").
 use Prim.Native.Nat.{ℕ, _<_}
 use mathlib.Core.Path.{_≡_}
-use mathlib.Core.Bool.{Bool, true, _&&_, _||_}
+use mathlib.Core.Bool.{Bool, true, false, _&&_, _||_}
 use mathlib.Core.List.{List}
 use lib.Dec.{eqb}
 use Rattle.word.specs.Word.{pick, plusW}
 use Rattle.memory.specs.Memory.{byteAt}
 use Rattle.opcodes.specs.declared.Cell.{Cell}
-use Rattle.opcodes.specs.Kind.{groupOf, MOVES}
+use Rattle.opcodes.specs.Kind.{TFR/EXG, LOOP, groupOf, STOPS, REGISTERS, CONTROL, MOVES}
 use Rattle.opcodes.specs.Mode.{ID, ID-ID}
 use Rattle.opcodes.specs.Map.{cellOf, cellNumber}
-use Rattle.opcodes.specs.Postbyte.{IDX, formOf, reservedOf, lengthIn, costOf, untakenOf}
-use Rattle.opcodes.specs.Rules.{stopsOf, movesMode}
+use Rattle.opcodes.specs.Postbyte.{IDX, formOf, indexedOf, transferReserved, loopReserved, formReserved, reservedOf, lengthIn, costOf, untakenOf}
+use Rattle.opcodes.specs.Rules.{stopsOf, movesMode, bareGroup, unplaced}
 use Rattle.decode.specs.declared.Opcode.{Opcode}
 use Rattle.decode.specs.declared.Decoded.{Decoded}
 use Rattle.decode.specs.declared.Fetched.{Fetched}
@@ -89,3 +89,61 @@ pub record Faithful (m : List ℕ) (d : Decoded) : Type 0 where
 
 abbrev pub FetchedFaithfully : Type 0
 FetchedFaithfully = (m : List ℕ) (pc : ℕ) (d : Decoded) → fetchedOf m pc ≡ Instruction d → Faithful m d
+
+-- What is fetched, by the group of the opcode: so a turn that has chosen the group asks only what the group needs. Each law is proved under
+-- the same name in proofs/Laws.antt.
+abbrev pub StopFetched : Type 0
+StopFetched =
+    (m : List ℕ) (pc : ℕ) (o : Opcode) → o ≡ opcodeAt m pc → groupOf (o .cell .kind) ≡ STOPS → fetchedOf m pc ≡ Stop
+
+-- an instruction without an indexed postbyte has the length and the cost of its cell
+abbrev pub plainOf : List ℕ → ℕ → Opcode → Decoded
+plainOf m pc o =
+    record {
+      kind = o .cell .kind;
+      mode = o .cell .mode;
+      at = o .at;
+      next = plusW pc (o .cell .length);
+      cost = o .cell .cost;
+      untaken = untakenOf (o .cell);
+      postbyte = byteAt m (o .at);
+      form = formOf (byteAt m (o .at));
+    }
+
+abbrev pub BareFetched : Type 0
+BareFetched =
+    (m : List ℕ) (pc : ℕ) (o : Opcode) →
+    o ≡ opcodeAt m pc →
+    bareGroup (groupOf (o .cell .kind)) ≡ true →
+    fetchedOf m pc ≡ Instruction (plainOf m pc o)
+
+-- of the registers' group a transfer has a postbyte that may be reserved, and of the control's a loop primitive
+abbrev pub RegistersFetched : Type 0
+RegistersFetched =
+    (m : List ℕ) (pc : ℕ) (o : Opcode) →
+    o ≡ opcodeAt m pc →
+    groupOf (o .cell .kind) ≡ REGISTERS →
+    fetchedOf m pc
+    ≡ pick (eqb (o .cell .kind) TFR/EXG && transferReserved (byteAt m (o .at))) Reserved (Instruction (plainOf m pc o))
+
+abbrev pub ControlFetched : Type 0
+ControlFetched =
+    (m : List ℕ) (pc : ℕ) (o : Opcode) →
+    o ≡ opcodeAt m pc →
+    groupOf (o .cell .kind) ≡ CONTROL →
+    fetchedOf m pc
+    ≡ pick (eqb (o .cell .kind) LOOP && loopReserved (byteAt m (o .at))) Reserved (Instruction (plainOf m pc o))
+
+-- What is left has an operand at a place in memory, and at most one postbyte, which is an indexed one.
+abbrev pub OperandFetched : Type 0
+OperandFetched =
+    (m : List ℕ) (pc : ℕ) (o : Opcode) →
+    o ≡ opcodeAt m pc →
+    unplaced (groupOf (o .cell .kind)) ≡ false →
+    fetchedOf m pc
+    ≡ pick (indexedOf (o .cell) && formReserved (o .cell) (byteAt m (o .at))) Reserved
+    (Instruction (decodedOf m pc (o .cell) (o .at)))
+
+-- and an instruction that is fetched is of the cell that stands there
+abbrev pub FetchedKind : Type 0
+FetchedKind = (m : List ℕ) (pc : ℕ) (d : Decoded) → fetchedOf m pc ≡ Instruction d → d .kind ≡ cellAt m pc .kind

@@ -30,8 +30,8 @@ pub enum Fetched {
 
 // A cell of the map, and the address after the opcode that named it.
 pub struct Opcode {
-    cell: Cell,
-    at: u16,
+    pub cell: Cell,
+    pub at: u16,
 }
 
 const PREBYTE: u8 = 0x18;
@@ -42,7 +42,7 @@ fn opcode_is(cell: Cell, at: u16) -> Opcode
     Opcode { cell: cell, at: at }
 }
 
-fn opcode_at(map: &[u32; 512], m: &[u8], pc: u16) -> Opcode
+pub fn opcode_at(map: &[u32; 512], m: &[u8], pc: u16) -> Opcode
     requires { ⌜ now map ≡ opcodeMap ⌝ }
     requires { ⌜ length (now m) ≡ 65536 ⌝ }
     ensures { λ r. ⌜ r ≡ opcodeAt (now (m .entry)) pc ⌝ }
@@ -69,7 +69,7 @@ fn second_reserved(grid: &[[u8; 8]; 18], m: &[u8], c: Cell, at: u16) -> bool
     false
 }
 
-fn decoded_is(pc: u16, c: Cell, at: u16, postbyte: u8, form: u8, cost: u8) -> Decoded
+pub fn decoded_is(pc: u16, c: Cell, at: u16, postbyte: u8, form: u8, cost: u8) -> Decoded
     ensures { λ r. ⌜ r ≡ decodedIs pc c at postbyte form cost ⌝ }
 {
     Decoded {

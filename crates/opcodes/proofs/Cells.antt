@@ -11,12 +11,12 @@ use native.Mathlib.Decide.{decLt}
 use Rattle.word.specs.Word.{pick}
 use Rattle.word.proofs.Table.{at-entry, at-number, everyBelow, all, holds, same, same-is}
 use Rattle.opcodes.specs.declared.Cell.{Cell}
-use Rattle.opcodes.specs.Kind.{TRAP, PAGE2, TFR/EXG, LOOP, groupOf, MOVES}
+use Rattle.opcodes.specs.Kind.{TRAP, PAGE2, TFR/EXG, LOOP, groupOf, STOPS, MOVES}
 use Rattle.opcodes.specs.Mode.{ID}
 use Rattle.opcodes.specs.Grid.{families, familyOf, grid, gridAt}
 use Rattle.opcodes.specs.Map.{Lines, noRow, pageOne, pageTwo, cellIs, cellIn, cellOf, cellNumber, opcodeMap}
 use Rattle.opcodes.specs.Postbyte.{IDX, formOf, extensionOf, indexedOf, formReserved, reservedOf, lengthIn, lengthOf, costIn, costOf, untakenOf}
-use Rattle.opcodes.specs.Rules.{stopsOf, stopCell, trapCell, prebyteCell, runs, regular, column, movesMode, widths, Sixteens, SixteenBySixteen, CostsByOpcode, EveryCell, EveryInstruction, MovesHaveTwoPlaces, MovesArePlain}
+use Rattle.opcodes.specs.Rules.{stopsOf, stopCell, trapCell, prebyteCell, runs, regular, column, movesMode, widths, Sixteens, SixteenBySixteen, CostsByOpcode, EveryCell, EveryInstruction, MovesHaveTwoPlaces, MovesArePlain, PastIdMoves, plainGroup, PlainUnindexed, FirstGroupStops}
 use Rattle.opcodes.proofs.Postbytes.{one-of-five}
 
 -- a cell from its number
@@ -76,6 +76,9 @@ rules k =
     ∷ leb (c .cost) 13
     ∷ pick (regular c) (eqb (c .cost) (gridAt (c .family) (column c))) true
     ∷ pick (eqb (groupOf (c .kind)) MOVES) (movesMode (c .mode)) true
+    ∷ pick (ltb ID (c .mode)) (eqb (groupOf (c .kind)) MOVES) true
+    ∷ pick (plainGroup (groupOf (c .kind))) (not (indexedOf c)) true
+    ∷ pick (prebyteCell k) true (pick (eqb (groupOf (c .kind)) STOPS) (stopsOf c) true)
     ∷ []
 
 -- the one test over the whole table
@@ -203,6 +206,30 @@ moves-are-plain k p past free = go (decLt k 512)
         let j = formOf p in
         eqb→eq _ _ (rw (not-missing k p h free, lt-ltb _ _ past) at (holds (bounds k j) (bounded k j h (one-of-five p)) 7))
     go (no n) = let none = rw (past-cells k (omega arith)) at past in absurd (omega (arith, none))
+
+pub past-id-moves : PastIdMoves
+unfolding rules
+past-id-moves k past = go (decLt k 512)
+  where
+    go : Dec (k < 512) → groupOf (cellOf k .kind) ≡ MOVES
+    go (yes h) = eqb→eq _ _ (rw (lt-ltb _ _ past) at (holds (rules k) (tested k h) 8))
+    go (no n) = let none = rw (past-cells k (omega arith)) at past in absurd (omega (arith, none))
+
+pub plain-unindexed : PlainUnindexed
+unfolding rules
+plain-unindexed k is = go (decLt k 512)
+  where
+    go : Dec (k < 512) → indexedOf (cellOf k) ≡ false
+    go (yes h) = sym (same-is false _ (rw is at (holds (rules k) (tested k h) 9)))
+    go (no n) = rw (past-cells k (omega arith))
+
+pub first-group-stops : FirstGroupStops
+unfolding rules
+first-group-stops k free is = go (decLt k 512)
+  where
+    go : Dec (k < 512) → stopsOf (cellOf k) ≡ true
+    go (yes h) = sym (same-is true _ (rw (free, eq-eqb _ _ is) at (holds (rules k) (tested k h) 10)))
+    go (no n) = rw (past-cells k (omega arith))
 
 pub costs-by-opcode : CostsByOpcode
 unfolding cellOf

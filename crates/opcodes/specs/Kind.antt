@@ -557,6 +557,9 @@ abbrev pub BRCLR : ℕ
 BRCLR = 0x123
 
 -- the groups, each by the first of its kinds
+abbrev pub STOPS : ℕ
+STOPS = groupOf BGND
+
 abbrev pub SHORT-BRANCHES : ℕ
 SHORT-BRANCHES = groupOf BRA
 

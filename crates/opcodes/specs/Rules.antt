@@ -7,7 +7,7 @@ use lib.Dec.{leb, ltb, eqb}
 use lib.ListN.{length, replicate}
 use Rattle.word.specs.Word.{pick}
 use Rattle.opcodes.specs.declared.Cell.{Cell}
-use Rattle.opcodes.specs.Kind.{TRAP, PAGE2, STOP, groupOf, MOVES}
+use Rattle.opcodes.specs.Kind.{TRAP, PAGE2, STOP, groupOf, STOPS, SHORT-BRANCHES, LONG-BRANCHES, IN-A, IN-B, REGISTERS, PRODUCTS, STACK, CONTROL, MOVES}
 use Rattle.opcodes.specs.Mode.{EX, IM-EX, EX-EX, ID, IM-ID, EX-ID, ID-ID, ID-EX}
 use Rattle.opcodes.specs.Grid.{gridAt, NONE}
 use Rattle.opcodes.specs.Map.{Lines, pageOne, pageTwo, cellOf}
@@ -117,3 +117,28 @@ MovesHaveTwoPlaces = (k : ℕ) → groupOf (cellOf k .kind) ≡ MOVES → movesM
 -- and a postbyte in a mode past ID, which is a move's, has the form IDX or is reserved (docs/MACHINE.md, "Reserved postbytes")
 abbrev pub MovesArePlain : Type 0
 MovesArePlain = (k postbyte : ℕ) → ID < cellOf k .mode → reservedOf (cellOf k) postbyte ≡ false → formOf postbyte ≡ IDX
+
+-- Past ID there are moves alone, so that nothing else has two postbytes.
+abbrev pub PastIdMoves : Type 0
+PastIdMoves = (k : ℕ) → ID < cellOf k .mode → groupOf (cellOf k .kind) ≡ MOVES
+
+-- The groups without an operand at a place in memory. Of REGISTERS a transfer has a postbyte that may be reserved, and of CONTROL a loop
+-- primitive; the others have none.
+abbrev pub plainGroup : ℕ → Bool
+plainGroup group =
+    among group (REGISTERS ∷ CONTROL ∷ SHORT-BRANCHES ∷ LONG-BRANCHES ∷ IN-A ∷ IN-B ∷ PRODUCTS ∷ STACK ∷ [])
+
+abbrev pub bareGroup : ℕ → Bool
+bareGroup group = among group (SHORT-BRANCHES ∷ LONG-BRANCHES ∷ IN-A ∷ IN-B ∷ PRODUCTS ∷ STACK ∷ [])
+
+-- no cell of these groups has an indexed postbyte
+abbrev pub PlainUnindexed : Type 0
+PlainUnindexed = (k : ℕ) → plainGroup (groupOf (cellOf k .kind)) ≡ true → indexedOf (cellOf k) ≡ false
+
+-- the first group has what stops and the prebyte, and nothing else
+abbrev pub FirstGroupStops : Type 0
+FirstGroupStops = (k : ℕ) → prebyteCell k ≡ false → groupOf (cellOf k .kind) ≡ STOPS → stopsOf (cellOf k) ≡ true
+
+-- the groups of the instructions that have no operand at a place in memory, or two: each other group works on one
+abbrev pub unplaced : ℕ → Bool
+unplaced group = eqb group STOPS || (eqb group MOVES || plainGroup group)

@@ -2,6 +2,9 @@
 
 use super::kind;
 
+// What stops the machine, and the prebyte.
+pub const STOPS: u16 = kind::BGND / 16;
+
 pub const SHORT_BRANCHES: u16 = kind::BRA / 16;
 
 pub const LONG_BRANCHES: u16 = kind::LBRA / 16;

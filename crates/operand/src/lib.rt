@@ -1,6 +1,5 @@
-// Where an operand lies: its effective address, and the registers once the base register has stepped. The postbyte and its form come
-// with the decoded instruction: neither is read or decided again.
-use decode::Decoded;
+// Where an operand lies: its effective address, and the registers once the base register has stepped.
+use opcodes::Cell;
 use opcodes::form;
 use opcodes::mode;
 use state::State;
@@ -9,8 +8,8 @@ ghost use lib.ListN.{length};
 ghost use Rattle.word.specs.Word.{plusW};
 ghost use Rattle.memory.specs.Memory.{byteAt, wordAt};
 ghost use Rattle.opcodes.specs.Postbyte.{formOf};
-ghost use Rattle.decode.specs.Decode.{Faithful};
-ghost use Rattle.operand.specs.Operand.{operandPlace};
+ghost use Rattle.opcodes.specs.Grid.{grid as gridOf};
+ghost use Rattle.operand.specs.Operand.{foundIs, locatedOf};
 ghost use Rattle.operand.specs.Indexed.{placeIs, baseOf, withBase, offset5, stepAmount, fivePlace, steppedPlace, nineBits, sixteenBits, throughSixteen, throughD, plainAccumulator, stepsOf, unsteppedPlace, plainPlace, indexedPlace};
 
 // An address, and the state after the base register's update, from which the operation goes on.
@@ -186,20 +185,53 @@ fn indexed_place(s: State, m: &[u8], at: u16, pc: u16, p: u8, form: u8) -> Place
     }
 }
 
-// Where the operand of an instruction lies. Immediate data is an operand that lies in the instruction itself.
-pub fn operand_place(s: State, m: &[u8], d: Decoded) -> Place
-    requires { ⌜ length (now m) ≡ 65536 ⌝ }
-    requires { ⌜ Faithful (now m) d ⌝ }
-    ensures { λ r. ⌜ r ≡ operandPlace s (now (m .entry)) (d .mode) (d .at) ⌝ }
+// What is found of an instruction before its operand is worked on: where that lies, and the instruction's cost; and whether its postbyte
+// is reserved, and then it is not done.
+pub struct Found {
+    pub place: Place,
+    pub cost: u8,
+    pub reserved: bool,
+}
+
+fn found_is(place: Place, cost: u8, reserved: bool) -> Found
+    ensures { λ r. ⌜ r ≡ foundIs place cost reserved ⌝ }
 {
-    if d.mode == mode::IM {
-        return place_at(d.at, s);
+    Found {
+        place: place,
+        cost: cost,
+        reserved: reserved,
     }
-    if d.mode == mode::DI {
-        return place_at(d.postbyte as u16, s);
+}
+
+// Where the operand of an instruction lies, once PC is past the instruction. Immediate data is an operand that lies in the instruction
+// itself. Only a mode with a postbyte reads it, and asks for its form and the form's cost and length.
+pub fn located(grid: &[[u8; 8]; 18], s: State, m: &[u8], c: Cell, at: u16) -> Found
+    requires { ⌜ now grid ≡ gridOf ⌝ }
+    requires { ⌜ length (now m) ≡ 65536 ⌝ }
+    ensures { λ r. ⌜ r ≡ locatedOf s (now (m .entry)) c at ⌝ }
+{
+    let next = word::plus(s.pc, c.length as u16);
+    if c.mode == mode::IM {
+        return found_is(place_at(at, s.with_pc(next)), c.cost, false);
     }
-    if d.mode == mode::EX {
-        return place_at(memory::read_word(m, d.at), s);
+    if c.mode == mode::DI {
+        return found_is(
+            place_at(memory::read_byte(m, at) as u16, s.with_pc(next)),
+            c.cost,
+            false,
+        );
     }
-    indexed_place(s, m, d.at, s.pc, d.postbyte, d.form)
+    if c.mode == mode::EX {
+        return found_is(
+            place_at(memory::read_word(m, at), s.with_pc(next)),
+            c.cost,
+            false,
+        );
+    }
+    let postbyte = memory::read_byte(m, at);
+    let form = opcodes::form_of(postbyte);
+    let cost = opcodes::full_cost(grid, c, form);
+    let after = word::plus(s.pc, opcodes::full_length(c, form));
+    let place = indexed_place(s.with_pc(after), m, at, after, postbyte, form);
+    found_is(place, cost, opcodes::indexed(c) & (cost == 0))
 }

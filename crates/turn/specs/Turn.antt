@@ -13,20 +13,23 @@ use Rattle.decode.specs.declared.Decoded.{Decoded}
 use Rattle.decode.specs.declared.Fetched.{Fetched}
 use Rattle.decode.specs.declared.Fetched.the-variants.{Stop, Reserved, Instruction}
 use Rattle.decode.specs.Decode.{fetchedOf, fetchedReply}
+use Rattle.memory.specs.Memory.{byteAt, wordAt}
+use Rattle.operand.specs.declared.Place.{Place}
+use Rattle.operand.specs.Operand.{operandPlace}
 use Rattle.effect.specs.declared.Effect.{Effect}
 use Rattle.effect.specs.Effect.{quiet}
-use Rattle.execute8.specs.Bytes.{withAEffect, withBEffect, inMemoryEffect, inAEffect, inBEffect}
-use Rattle.execute16.specs.Words.{withWordEffect, storeEffect, chooseEffect}
+use Rattle.execute8.specs.Bytes.{aWith, bWith, memoryChanged, withAEffect, withBEffect, inMemoryEffect, inAEffect, inBEffect}
+use Rattle.execute16.specs.Words.{wordWith, stored, chosen, withWordEffect, storeEffect, chooseEffect}
 use Rattle.execute16.specs.Registers.{registersEffect}
 use Rattle.products.specs.Products.{productEffect}
-use Rattle.execute16.specs.Lookups.{lookupEffect}
+use Rattle.execute16.specs.Lookups.{lookedUp, lookupEffect}
 use Rattle.stack.specs.Stack.{stackEffect}
 use Rattle.frames.specs.Frames.{interruptEffect}
 use Rattle.flow.specs.Branches.{shortEffect, longEffect}
 use Rattle.flow.specs.Control.{controlEffect}
 use Rattle.moves.specs.Moves.{moveEffect}
-use Rattle.moves.specs.Addresses.{addressEffect}
-use Rattle.moves.specs.Bits.{bitsEffect}
+use Rattle.moves.specs.Addresses.{addressed, addressEffect}
+use Rattle.moves.specs.Bits.{bitted, bitsEffect}
 use Rattle.machine.specs.declared.Reply.{Reply}
 use Rattle.machine.specs.declared.Reply.the-variants.{Done, Stopped, ReservedPostbyte}
 use Rattle.turn.specs.declared.Turn.{Turn}
@@ -49,6 +52,26 @@ withOperand group s m d =
     (pick (eqb group IN-MEMORY) (inMemoryEffect s m d)
     (pick (eqb group ADDRESSES) (addressEffect s m d)
     (pick (eqb group CHOICES) (chooseEffect s m d) (pick (eqb group LOOKUPS) (lookupEffect s m d) (bitsEffect s m d))))))))
+
+-- the same by the operand's place, as it is found before the group is chosen
+unfoldable pub placed : ℕ → Place → List ℕ → ℕ → ℕ → Effect
+placed group place m kind cost =
+    let s = place .state in
+    let a = place .address in
+    pick (eqb group WITH-A) (aWith s kind (byteAt m a) cost)
+    (pick (eqb group WITH-B) (bWith s kind (byteAt m a) cost)
+    (pick (eqb group WITH-WORD) (wordWith s kind (wordAt m a) cost)
+    (pick (eqb group STORES) (stored kind s cost a)
+    (pick (eqb group IN-MEMORY) (memoryChanged s kind (byteAt m a) a cost)
+    (pick (eqb group ADDRESSES) (addressed s kind a cost)
+    (pick (eqb group CHOICES) (chosen kind s m cost a)
+    (pick (eqb group LOOKUPS) (quiet (lookedUp kind s m a) cost) (bitted s m kind a cost))))))))
+
+-- Proved under the same name in proofs/Laws.antt.
+abbrev pub PlacedFirst : Type 0
+PlacedFirst =
+    (group : ℕ) (s : State) (m : List ℕ) (d : Decoded) →
+    withOperand group s m d ≡ placed group (operandPlace s m (d .mode) (d .at)) m (d .kind) (d .cost)
 
 -- an instruction, by its group; PC of the state is the address after it
 unfoldable pub executed : State → List ℕ → Decoded → Effect

@@ -1,18 +1,25 @@
 // What the machine does next at a boundary, worked out whole over a memory that is only read.
 use decode::Decoded;
 use decode::Fetched;
+use decode::Opcode;
 use effect::Effect;
 use machine::Machine;
 use machine::Reply;
 use opcodes::group;
 use opcodes::kind;
+use operand::Place;
 use state::State;
 ghost use mathlib.Core.Path.{_≡_};
+ghost use mathlib.Core.Bool.{false};
 ghost use lib.ListN.{length};
 ghost use Rattle.opcodes.specs.Grid.{grid as gridOf};
 ghost use Rattle.opcodes.specs.Map.{opcodeMap};
-ghost use Rattle.decode.specs.Decode.{Faithful, fetchedOf};
-ghost use Rattle.turn.specs.Turn.{controlled as controlledOf, withOperand, executed as executedOf, turnIs, ranOf, turnOf, instructed as instructedOf};
+ghost use Rattle.opcodes.specs.Kind.{groupOf, REGISTERS, CONTROL, MOVES};
+ghost use Rattle.opcodes.specs.Rules.{unplaced};
+ghost use Rattle.decode.specs.Decode.{Faithful, opcodeAt, cellAt, fetchedOf};
+ghost use Rattle.effect.specs.Effect.{quiet as quietOf};
+ghost use Rattle.machine.specs.declared.Reply.the-variants.{ReservedPostbyte};
+ghost use Rattle.turn.specs.Turn.{controlled as controlledOf, placed, turnIs, instructed, turnOf};
 
 // A turn worked out: what is done, and the reply; nothing is done where the reply is Stopped or ReservedPostbyte.
 pub struct Turn {
@@ -35,54 +42,6 @@ fn controlled(s: State, m: &[u8], d: Decoded) -> Effect
     flow::control(s, m, d)
 }
 
-// An instruction with an operand in memory: the operand's place is found once, and then the group is chosen.
-fn with_operand(group: u16, s: State, m: &[u8], d: Decoded) -> Effect
-    requires { ⌜ length (now m) ≡ 65536 ⌝ }
-    requires { ⌜ Faithful (now m) d ⌝ }
-    ensures { λ r. ⌜ r ≡ withOperand group s (now (m .entry)) d ⌝ }
-{
-    let place = operand::operand_place(s, m, d);
-    let t = place.state;
-    let a = place.address;
-    match group {
-        group::WITH_A => execute8::with_a(t, d.kind, memory::read_byte(m, a), d.cost),
-        group::WITH_B => execute8::with_b(t, d.kind, memory::read_byte(m, a), d.cost),
-        group::WITH_WORD => execute16::with_word(t, d.kind, memory::read_word(m, a), d.cost),
-        group::STORES => execute16::store(t, d.kind, d.cost, a),
-        group::IN_MEMORY => execute8::in_memory(t, d.kind, memory::read_byte(m, a), a, d.cost),
-        group::ADDRESSES => moves::addresses(t, d.kind, a, d.cost),
-        group::CHOICES => execute16::choose(t, m, d.kind, d.cost, a),
-        group::LOOKUPS => execute16::look_up(t, m, d.kind, d.cost, a),
-        _ => moves::bits(t, m, d.kind, a, d.cost),
-    }
-}
-
-fn executed(s: State, m: &[u8], d: Decoded) -> Effect
-    requires { ⌜ length (now m) ≡ 65536 ⌝ }
-    requires { ⌜ Faithful (now m) d ⌝ }
-    ensures { λ r. ⌜ r ≡ executedOf s (now (m .entry)) d ⌝ }
-{
-    let group = opcodes::group_of(d.kind);
-    match group {
-        group::SHORT_BRANCHES => flow::short_branch(s, d.kind, d.postbyte, d.cost, d.untaken),
-        group::LONG_BRANCHES => flow::long_branch(
-            s,
-            d.kind,
-            memory::read_word(m, d.at),
-            d.cost,
-            d.untaken,
-        ),
-        group::IN_A => execute8::in_a(s, d.kind, d.cost),
-        group::IN_B => execute8::in_b(s, d.kind, d.cost),
-        group::REGISTERS => execute16::registers(s, d.kind, d.postbyte, d.cost),
-        group::PRODUCTS => products::products(s, m, d),
-        group::STACK => stack::stack(s, m, d.kind, d.cost),
-        group::CONTROL => controlled(s, m, d),
-        group::MOVES => moves::moves(s, m, d),
-        _ => with_operand(group, s, m, d),
-    }
-}
-
 fn turn_is(reply: Reply, e: Effect) -> Turn
     ensures { λ r. ⌜ r ≡ turnIs reply e ⌝ }
 {
@@ -92,23 +51,152 @@ fn turn_is(reply: Reply, e: Effect) -> Turn
     }
 }
 
-fn ran(s: State, m: &[u8], d: Decoded) -> Turn
-    requires { ⌜ length (now m) ≡ 65536 ⌝ }
-    requires { ⌜ Faithful (now m) d ⌝ }
-    ensures { λ r. ⌜ r ≡ ranOf s (now (m .entry)) d ⌝ }
+// A postbyte is reserved: nothing is done.
+fn reserved(s: State) -> Turn
+    ensures { λ r. ⌜ r ≡ turnIs ReservedPostbyte (quietOf s 0) ⌝ }
 {
-    turn_is(Reply::Done, executed(s.with_pc(d.next), m, d))
+    turn_is(Reply::ReservedPostbyte, effect::quiet(s, 0))
 }
 
-fn instructed(s: State, m: &[u8], fetched: Fetched) -> Turn
+// The transfers have a postbyte of their own, the others of the group do not ask for it.
+fn registers(s: State, m: &[u8], opcode: Opcode) -> Turn
+    requires { ⌜ length (now m) ≡ 65536 ⌝ }
+    requires { ⌜ opcode ≡ opcodeAt (now m) (s .pc) ⌝ }
+    requires { ⌜ groupOf (opcode .cell .kind) ≡ REGISTERS ⌝ }
+    ensures { λ r. ⌜ r ≡ instructed s (now (m .entry)) (fetchedOf (now (m .entry)) (s .pc)) ⌝ }
+{
+    let c = opcode.cell;
+    let postbyte = memory::read_byte(m, opcode.at);
+    if (c.kind == kind::TFR_EXG) & opcodes::transfer_reserved(postbyte) {
+        return reserved(s);
+    }
+    let next = word::plus(s.pc, c.length as u16);
+    turn_is(
+        Reply::Done,
+        execute16::registers(s.with_pc(next), c.kind, postbyte, c.cost),
+    )
+}
+
+// And so have the loop primitives.
+fn control(s: State, m: &[u8], opcode: Opcode) -> Turn
+    requires { ⌜ length (now m) ≡ 65536 ⌝ }
+    requires { ⌜ opcode ≡ opcodeAt (now m) (s .pc) ⌝ }
+    requires { ⌜ groupOf (opcode .cell .kind) ≡ CONTROL ⌝ }
+    ensures { λ r. ⌜ r ≡ instructed s (now (m .entry)) (fetchedOf (now (m .entry)) (s .pc)) ⌝ }
+{
+    let c = opcode.cell;
+    let postbyte = memory::read_byte(m, opcode.at);
+    if (c.kind == kind::LOOP) & opcodes::loop_reserved(postbyte) {
+        return reserved(s);
+    }
+    let form = opcodes::form_of(postbyte);
+    let d = decode::decoded_is(s.pc, c, opcode.at, postbyte, form, c.cost);
+    let next = word::plus(s.pc, c.length as u16);
+    turn_is(Reply::Done, controlled(s.with_pc(next), m, d))
+}
+
+// A move: it alone may have two postbytes, and is fetched whole.
+fn moved(s: State, m: &[u8], fetched: Fetched) -> Turn
     requires { ⌜ length (now m) ≡ 65536 ⌝ }
     requires { ⌜ fetched ≡ fetchedOf (now m) (s .pc) ⌝ }
-    ensures { λ r. ⌜ r ≡ instructedOf s (now (m .entry)) fetched ⌝ }
+    requires { ⌜ groupOf (cellAt (now m) (s .pc) .kind) ≡ MOVES ⌝ }
+    ensures { λ r. ⌜ r ≡ instructed s (now (m .entry)) fetched ⌝ }
 {
     match fetched {
         Fetched::Stop => turn_is(Reply::Stopped, effect::quiet(s, 0)),
-        Fetched::Reserved => turn_is(Reply::ReservedPostbyte, effect::quiet(s, 0)),
-        Fetched::Instruction(d) => ran(s, m, d),
+        Fetched::Reserved => reserved(s),
+        Fetched::Instruction(d) => turn_is(Reply::Done, moves::moves(s.with_pc(d.next), m, d)),
+    }
+}
+
+// What an instruction does with its operand, by the group.
+fn with_operand(group: u16, place: Place, m: &[u8], kind: u16, cost: u8) -> Effect
+    requires { ⌜ length (now m) ≡ 65536 ⌝ }
+    ensures { λ r. ⌜ r ≡ placed group place (now (m .entry)) kind cost ⌝ }
+{
+    let t = place.state;
+    let a = place.address;
+    if (group == group::WITH_A) | (group == group::WITH_B) {
+        return execute8::with_accumulator(
+            group == group::WITH_B,
+            t,
+            kind,
+            memory::read_byte(m, a),
+            cost,
+        );
+    }
+    match group {
+        group::WITH_WORD => execute16::with_word(t, kind, memory::read_word(m, a), cost),
+        group::STORES => execute16::store(t, kind, cost, a),
+        group::IN_MEMORY => execute8::in_memory(t, kind, memory::read_byte(m, a), a, cost),
+        group::ADDRESSES => moves::addresses(t, kind, a, cost),
+        group::CHOICES => execute16::choose(t, m, kind, cost, a),
+        group::LOOKUPS => execute16::look_up(t, m, kind, cost, a),
+        _ => moves::bits(t, m, kind, a, cost),
+    }
+}
+
+// An instruction with an operand in memory: the operand's place is found once, by the mode, and then the group is chosen.
+fn operands(grid: &[[u8; 8]; 18], group: u16, s: State, m: &[u8], opcode: Opcode) -> Turn
+    requires { ⌜ now grid ≡ gridOf ⌝ }
+    requires { ⌜ length (now m) ≡ 65536 ⌝ }
+    requires { ⌜ opcode ≡ opcodeAt (now m) (s .pc) ⌝ }
+    requires { ⌜ group ≡ groupOf (opcode .cell .kind) ⌝ }
+    requires { ⌜ unplaced group ≡ false ⌝ }
+    ensures { λ r. ⌜ r ≡ instructed s (now (m .entry)) (fetchedOf (now (m .entry)) (s .pc)) ⌝ }
+{
+    let c = opcode.cell;
+    let found = operand::located(grid, s, m, c, opcode.at);
+    if found.reserved {
+        return reserved(s);
+    }
+    let place = found.place;
+    turn_is(
+        Reply::Done,
+        with_operand(group, place, m, c.kind, found.cost),
+    )
+}
+
+// What stands at PC. The group is chosen first, and then only what it needs is read and asked.
+fn at_pc(map: &[u32; 512], grid: &[[u8; 8]; 18], s: State, m: &[u8]) -> Turn
+    requires { ⌜ now map ≡ opcodeMap ⌝ }
+    requires { ⌜ now grid ≡ gridOf ⌝ }
+    requires { ⌜ length (now m) ≡ 65536 ⌝ }
+    ensures { λ r. ⌜ r ≡ instructed s (now (m .entry)) (fetchedOf (now (m .entry)) (s .pc)) ⌝ }
+{
+    let opcode = decode::opcode_at(map, m, s.pc);
+    let c = opcode.cell;
+    let at = opcode.at;
+    let group = opcodes::group_of(c.kind);
+    let next = word::plus(s.pc, c.length as u16);
+    match group {
+        group::STOPS => turn_is(Reply::Stopped, effect::quiet(s, 0)),
+        group::SHORT_BRANCHES => turn_is(
+            Reply::Done,
+            flow::short_branch(s.with_pc(next), c.kind, memory::read_byte(m, at), c.cost, 1),
+        ),
+        group::LONG_BRANCHES => turn_is(
+            Reply::Done,
+            flow::long_branch(s.with_pc(next), c.kind, memory::read_word(m, at), c.cost, 3),
+        ),
+        group::IN_A => turn_is(Reply::Done, execute8::in_a(s.with_pc(next), c.kind, c.cost)),
+        group::IN_B => turn_is(Reply::Done, execute8::in_b(s.with_pc(next), c.kind, c.cost)),
+        group::PRODUCTS => turn_is(
+            Reply::Done,
+            products::products(
+                s.with_pc(next),
+                m,
+                decode::decoded_is(s.pc, c, at, 0, 0, c.cost),
+            ),
+        ),
+        group::STACK => turn_is(
+            Reply::Done,
+            stack::stack(s.with_pc(next), m, c.kind, c.cost),
+        ),
+        group::REGISTERS => registers(s, m, opcode),
+        group::CONTROL => control(s, m, opcode),
+        group::MOVES => moved(s, m, decode::fetch(map, grid, m, s.pc)),
+        _ => operands(grid, group, s, m, opcode),
     }
 }
 
@@ -131,5 +219,5 @@ pub fn turn_at(map: &[u32; 512], grid: &[[u8; 8]; 18], s: State, m: &[u8], line:
     if standing.waiting {
         return turn_is(Reply::Done, effect::quiet(s, Machine::IDLE_COST));
     }
-    instructed(s, m, decode::fetch(map, grid, m, s.pc))
+    at_pc(map, grid, s, m)
 }

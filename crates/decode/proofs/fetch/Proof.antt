@@ -1,21 +1,12 @@
-use Prim.Native.Nat.{ℕ}
 use mathlib.Core.Path.{ap}
 use borrow.Author.Needs.{needs}
 use Rattle.opcodes.specs.Postbyte.{costOf}
 use Rattle.opcodes.proofs.Postbytes.{one-of-five}
-use Rattle.opcodes.specs.declared.Cell.{Cell}
-use Rattle.decode.specs.declared.Opcode.{Opcode}
 use Rattle.decode.specs.Decode.{fetchedOf}
 use Rattle.decode.specs.declared.Fetched.the-variants.{Instruction}
+use Rattle.decode.proofs.Laws.{cell-of, at-of}
 use Rattle.decode.proofs.fetch.Statement.{statement}
 use Rattle.decode.proofs.fetch.Tie as tie
-
--- the parts of an opcode
-abbrev cell-of : Opcode → Cell
-cell-of o = o .cell
-
-abbrev at-of : Opcode → ℕ
-at-of o = o .at
 
 stop : tie.Need-returns
 unfolding fetchedOf

@@ -46,20 +46,14 @@ idle c =
 runs : tie.Need-returns-4
 unfolding turnOf
 runs c =
-    let waits = c .before .before in
+    let waits = c .before in
     let allowed = waits .before in
     rw (
-      c .instructed .ensures,
-      c .before .fetch .ensures,
+      c .at-pc .ensures,
       ← (allowed .before .allowed-line .ensures),
       le-ltb _ _ (allowed .if1 .left),
       waits .if3 .left,
     )
-
-asks : tie.Need-instructed-requires
-asks c κs =
-    let start = c .before .before .before .before .before .before .before in
-    (start .pre .1 .1, c .fetch .ensures)
 
 pub turn-at-spec : {M : Type 1} → statement M
 turn-at-spec =
@@ -76,5 +70,4 @@ turn-at-spec =
     (λ c κs. search needs)
     idle
     (λ c κs. search needs)
-    asks
     runs)
