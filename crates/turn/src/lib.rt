@@ -18,7 +18,7 @@ ghost use Rattle.opcodes.specs.Kind.{groupOf, REGISTERS, CONTROL, MOVES};
 ghost use Rattle.opcodes.specs.Rules.{unplaced};
 ghost use Rattle.decode.specs.Decode.{Faithful, opcodeAt, cellAt, fetchedOf};
 ghost use Rattle.effect.specs.Effect.{quiet as quietOf};
-ghost use Rattle.machine.specs.declared.Reply.the-variants.{ReservedPostbyte};
+ghost use Rattle.machine.specs.declared.Reply.the-variants.{Done, ReservedPostbyte};
 ghost use Rattle.turn.specs.Turn.{controlled as controlledOf, placed, turnIs, instructed, turnOf};
 
 // A turn worked out: what is done, and the reply; nothing is done where the reply is Stopped or ReservedPostbyte.
@@ -51,6 +51,12 @@ fn turn_is(reply: Reply, e: Effect) -> Turn
     }
 }
 
+fn done(e: Effect) -> Turn
+    ensures { λ r. ⌜ r ≡ turnIs Done e ⌝ }
+{
+    turn_is(Reply::Done, e)
+}
+
 // A postbyte is reserved: nothing is done.
 fn reserved(s: State) -> Turn
     ensures { λ r. ⌜ r ≡ turnIs ReservedPostbyte (quietOf s 0) ⌝ }
@@ -71,10 +77,7 @@ fn registers(s: State, m: &[u8], opcode: Opcode) -> Turn
         return reserved(s);
     }
     let next = word::plus(s.pc, c.length as u16);
-    turn_is(
-        Reply::Done,
-        execute16::registers(s.with_pc(next), c.kind, postbyte, c.cost),
-    )
+    done(execute16::registers(s.with_pc(next), c.kind, postbyte, c.cost))
 }
 
 // And so have the loop primitives.
@@ -92,7 +95,7 @@ fn control(s: State, m: &[u8], opcode: Opcode) -> Turn
     let form = opcodes::form_of(postbyte);
     let d = decode::decoded_is(s.pc, c, opcode.at, postbyte, form, c.cost);
     let next = word::plus(s.pc, c.length as u16);
-    turn_is(Reply::Done, controlled(s.with_pc(next), m, d))
+    done(controlled(s.with_pc(next), m, d))
 }
 
 // A move: it alone may have two postbytes, and is fetched whole.
@@ -105,7 +108,7 @@ fn moved(s: State, m: &[u8], fetched: Fetched) -> Turn
     match fetched {
         Fetched::Stop => turn_is(Reply::Stopped, effect::quiet(s, 0)),
         Fetched::Reserved => reserved(s),
-        Fetched::Instruction(d) => turn_is(Reply::Done, moves::moves(s.with_pc(d.next), m, d)),
+        Fetched::Instruction(d) => done(moves::moves(s.with_pc(d.next), m, d)),
     }
 }
 
@@ -151,10 +154,7 @@ fn operands(grid: &[[u8; 8]; 18], group: u16, s: State, m: &[u8], opcode: Opcode
         return reserved(s);
     }
     let place = found.place;
-    turn_is(
-        Reply::Done,
-        with_operand(group, place, m, c.kind, found.cost),
-    )
+    done(with_operand(group, place, m, c.kind, found.cost))
 }
 
 // What stands at PC. The group is chosen first, and then only what it needs is read and asked.
@@ -171,28 +171,28 @@ fn at_pc(map: &[u32; 512], grid: &[[u8; 8]; 18], s: State, m: &[u8]) -> Turn
     let next = word::plus(s.pc, c.length as u16);
     match group {
         group::STOPS => turn_is(Reply::Stopped, effect::quiet(s, 0)),
-        group::SHORT_BRANCHES => turn_is(
-            Reply::Done,
-            flow::short_branch(s.with_pc(next), c.kind, memory::read_byte(m, at), c.cost, 1),
-        ),
-        group::LONG_BRANCHES => turn_is(
-            Reply::Done,
-            flow::long_branch(s.with_pc(next), c.kind, memory::read_word(m, at), c.cost, 3),
-        ),
-        group::IN_A => turn_is(Reply::Done, execute8::in_a(s.with_pc(next), c.kind, c.cost)),
-        group::IN_B => turn_is(Reply::Done, execute8::in_b(s.with_pc(next), c.kind, c.cost)),
-        group::PRODUCTS => turn_is(
-            Reply::Done,
-            products::products(
-                s.with_pc(next),
-                m,
-                decode::decoded_is(s.pc, c, at, 0, 0, c.cost),
-            ),
-        ),
-        group::STACK => turn_is(
-            Reply::Done,
-            stack::stack(s.with_pc(next), m, c.kind, c.cost),
-        ),
+        group::SHORT_BRANCHES => done(flow::short_branch(
+            s.with_pc(next),
+            c.kind,
+            memory::read_byte(m, at),
+            c.cost,
+            1,
+        )),
+        group::LONG_BRANCHES => done(flow::long_branch(
+            s.with_pc(next),
+            c.kind,
+            memory::read_word(m, at),
+            c.cost,
+            3,
+        )),
+        group::IN_A => done(execute8::in_a(s.with_pc(next), c.kind, c.cost)),
+        group::IN_B => done(execute8::in_b(s.with_pc(next), c.kind, c.cost)),
+        group::PRODUCTS => done(products::products(
+            s.with_pc(next),
+            m,
+            decode::decoded_is(s.pc, c, at, 0, 0, c.cost),
+        )),
+        group::STACK => done(stack::stack(s.with_pc(next), m, c.kind, c.cost)),
         group::REGISTERS => registers(s, m, opcode),
         group::CONTROL => control(s, m, opcode),
         group::MOVES => moved(s, m, decode::fetch(map, grid, m, s.pc)),
@@ -212,12 +212,12 @@ pub fn turn_at(map: &[u32; 512], grid: &[[u8; 8]; 18], s: State, m: &[u8], line:
     let k = requests::allowed_line(f, line);
     if k < 8 {
         if standing.waiting {
-            return turn_is(Reply::Done, requests::wake(s, m, k));
+            return done(requests::wake(s, m, k));
         }
-        return turn_is(Reply::Done, requests::entry(s, m, k));
+        return done(requests::entry(s, m, k));
     }
     if standing.waiting {
-        return turn_is(Reply::Done, effect::quiet(s, Machine::IDLE_COST));
+        return done(effect::quiet(s, Machine::IDLE_COST));
     }
     at_pc(map, grid, s, m)
 }

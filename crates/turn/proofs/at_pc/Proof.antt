@@ -86,7 +86,7 @@ short-branch-done c =
     let found = asked .before .before in
     rw (
       bare-done _ _ (found .opcode-at .ensures) (asked .group-of .ensures) (rw (told .match .keys2)),
-      c .turn-is2 .ensures,
+      c .done .ensures,
       worked .short-branch .ensures,
       read .read-byte .ensures,
       past .with-pc .ensures,
@@ -107,7 +107,7 @@ long-branch-done c =
     let found = asked .before .before in
     rw (
       bare-done _ _ (found .opcode-at .ensures) (asked .group-of .ensures) (rw (told .match .keys3)),
-      c .turn-is3 .ensures,
+      c .done2 .ensures,
       worked .long-branch .ensures,
       read .read-word .ensures,
       past .with-pc2 .ensures,
@@ -127,7 +127,7 @@ in-a-done c =
     let found = asked .before .before in
     rw (
       bare-done _ _ (found .opcode-at .ensures) (asked .group-of .ensures) (rw (told .match .keys4)),
-      c .turn-is4 .ensures,
+      c .done3 .ensures,
       worked .in-a .ensures,
       past .with-pc3 .ensures,
       sum .plus .ensures,
@@ -146,7 +146,7 @@ in-b-done c =
     let found = asked .before .before in
     rw (
       bare-done _ _ (found .opcode-at .ensures) (asked .group-of .ensures) (rw (told .match .keys5)),
-      c .turn-is5 .ensures,
+      c .done4 .ensures,
       worked .in-b .ensures,
       past .with-pc4 .ensures,
       sum .plus .ensures,
@@ -166,7 +166,7 @@ products-done c =
     let found = asked .before .before in
     rw (
       bare-done _ _ (found .opcode-at .ensures) (asked .group-of .ensures) (rw (told .match .keys6)),
-      c .turn-is6 .ensures,
+      c .done5 .ensures,
       worked .products .ensures,
       built .decoded-is .ensures,
       past .with-pc5 .ensures,
@@ -186,7 +186,7 @@ stack-done c =
     let found = asked .before .before in
     rw (
       bare-done _ _ (found .opcode-at .ensures) (asked .group-of .ensures) (rw (told .match .keys7)),
-      c .turn-is7 .ensures,
+      c .done6 .ensures,
       worked .stack .ensures,
       past .with-pc6 .ensures,
       sum .plus .ensures,

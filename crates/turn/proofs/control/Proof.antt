@@ -46,7 +46,7 @@ done c =
     let read = asked .before .before in
     let start = read .before .before .before in
     rw (
-      c .turn-is .ensures,
+      c .done .ensures,
       worked .controlled .ensures,
       past .with-pc .ensures,
       sum .plus .ensures,

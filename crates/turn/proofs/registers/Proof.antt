@@ -28,7 +28,7 @@ done c =
     let read = asked .before .before in
     let start = read .before .before .before in
     rw (
-      c .turn-is .ensures,
+      c .done .ensures,
       worked .registers .ensures,
       past .with-pc .ensures,
       sum .plus .ensures,
