@@ -5,6 +5,7 @@ use decode::Opcode;
 use effect::Effect;
 use machine::Machine;
 use machine::Reply;
+use opcodes::Cell;
 use opcodes::group;
 use opcodes::kind;
 use operand::Place;
@@ -12,6 +13,8 @@ use state::State;
 ghost use mathlib.Core.Path.{_≡_};
 ghost use mathlib.Core.Bool.{false};
 ghost use lib.ListN.{length};
+ghost use Rattle.word.specs.Word.{plusW};
+ghost use Rattle.state.specs.State.{withPc};
 ghost use Rattle.opcodes.specs.Grid.{grid as gridOf};
 ghost use Rattle.opcodes.specs.Map.{opcodeMap};
 ghost use Rattle.opcodes.specs.Kind.{groupOf, REGISTERS, CONTROL, MOVES};
@@ -64,6 +67,13 @@ fn reserved(s: State) -> Turn
     turn_is(Reply::ReservedPostbyte, effect::quiet(s, 0))
 }
 
+// PC past an instruction that has the length of its cell.
+fn past(s: State, c: Cell) -> State
+    ensures { λ r. ⌜ r ≡ withPc s (plusW (s .pc) (c .length)) ⌝ }
+{
+    s.with_pc(word::plus(s.pc, c.length as u16))
+}
+
 // The transfers have a postbyte of their own, the others of the group do not ask for it.
 fn registers(s: State, m: &[u8], opcode: Opcode) -> Turn
     requires { ⌜ length (now m) ≡ 65536 ⌝ }
@@ -76,8 +86,7 @@ fn registers(s: State, m: &[u8], opcode: Opcode) -> Turn
     if (c.kind == kind::TFR_EXG) & opcodes::transfer_reserved(postbyte) {
         return reserved(s);
     }
-    let next = word::plus(s.pc, c.length as u16);
-    done(execute16::registers(s.with_pc(next), c.kind, postbyte, c.cost))
+    done(execute16::registers(past(s, c), c.kind, postbyte, c.cost))
 }
 
 // And so have the loop primitives.
@@ -94,8 +103,7 @@ fn control(s: State, m: &[u8], opcode: Opcode) -> Turn
     }
     let form = opcodes::form_of(postbyte);
     let d = decode::decoded_is(s.pc, c, opcode.at, postbyte, form, c.cost);
-    let next = word::plus(s.pc, c.length as u16);
-    done(controlled(s.with_pc(next), m, d))
+    done(controlled(past(s, c), m, d))
 }
 
 // A move: it alone may have two postbytes, and is fetched whole.
@@ -166,33 +174,31 @@ fn at_pc(map: &[u32; 512], grid: &[[u8; 8]; 18], s: State, m: &[u8]) -> Turn
 {
     let opcode = decode::opcode_at(map, m, s.pc);
     let c = opcode.cell;
-    let at = opcode.at;
     let group = opcodes::group_of(c.kind);
-    let next = word::plus(s.pc, c.length as u16);
     match group {
         group::STOPS => turn_is(Reply::Stopped, effect::quiet(s, 0)),
         group::SHORT_BRANCHES => done(flow::short_branch(
-            s.with_pc(next),
+            past(s, c),
             c.kind,
-            memory::read_byte(m, at),
+            memory::read_byte(m, opcode.at),
             c.cost,
             1,
         )),
         group::LONG_BRANCHES => done(flow::long_branch(
-            s.with_pc(next),
+            past(s, c),
             c.kind,
-            memory::read_word(m, at),
+            memory::read_word(m, opcode.at),
             c.cost,
             3,
         )),
-        group::IN_A => done(execute8::in_a(s.with_pc(next), c.kind, c.cost)),
-        group::IN_B => done(execute8::in_b(s.with_pc(next), c.kind, c.cost)),
+        group::IN_A => done(execute8::in_a(past(s, c), c.kind, c.cost)),
+        group::IN_B => done(execute8::in_b(past(s, c), c.kind, c.cost)),
         group::PRODUCTS => done(products::products(
-            s.with_pc(next),
+            past(s, c),
             m,
-            decode::decoded_is(s.pc, c, at, 0, 0, c.cost),
+            decode::decoded_is(s.pc, c, opcode.at, 0, 0, c.cost),
         )),
-        group::STACK => done(stack::stack(s.with_pc(next), m, c.kind, c.cost)),
+        group::STACK => done(stack::stack(past(s, c), m, c.kind, c.cost)),
         group::REGISTERS => registers(s, m, opcode),
         group::CONTROL => control(s, m, opcode),
         group::MOVES => moved(s, m, decode::fetch(map, grid, m, s.pc)),
