@@ -1,4 +1,3 @@
-use mathlib.Core.Path.{sym}
 use borrow.Author.Needs.{needs}
 use Rattle.decode.proofs.Laws.{fetched-faithfully}
 use Rattle.turn.specs.Turn.{executed, instructed}
