@@ -16,7 +16,7 @@ use Rattle.opcodes.specs.Kind.{TFR/EXG, LOOP, groupOf, STOPS, REGISTERS, CONTRO
 use Rattle.opcodes.specs.Mode.{ID, ID-ID}
 use Rattle.opcodes.specs.Postbyte.{IDX, formOf, indexedOf, transferReserved, loopReserved, formReserved, reservedOf, costOf}
 use Rattle.opcodes.proofs.Cells.{moves-have-two-places, moves-are-plain, past-id-moves, plain-unindexed, first-group-stops}
-use Rattle.opcodes.specs.Rules.{stopsOf, plainGroup, bareGroup}
+use Rattle.opcodes.specs.Rules.{stopsOf, plainGroup}
 use Rattle.opcodes.specs.Map.{cellOf}
 use Rattle.decode.specs.declared.Opcode.{Opcode}
 use Rattle.decode.specs.declared.Decoded.{Decoded}

@@ -1,21 +1,21 @@
 -- The reply to what stands at PC, by its cases, and what stands there, by the group of its opcode. Assumes nothing.
-use Prim.Native.Nat.{ℕ, _+_}
+use Prim.Native.Nat.{ℕ}
 use native.Mathlib.Nat.{add-zero}
 use mathlib.Core.Path.{_≡_, refl, sym, _∙_, ap}
 use mathlib.Core.Bool.{Bool, true, false, _&&_, true≢false}
 use mathlib.Core.List.{List}
 use lib.Dec.{eqb}
 use borrow.Author.Tests.{ne-eqb}
-use Rattle.word.specs.Word.{pick, plusW}
+use Rattle.word.specs.Word.{pick}
 use Rattle.memory.specs.Memory.{byteAt}
 use Rattle.state.specs.declared.State.{State}
 use Rattle.opcodes.specs.Kind.{LOOP, TFR/EXG, groupOf, SHORT-BRANCHES, LONG-BRANCHES, IN-A, IN-B, REGISTERS, PRODUCTS, STACK, CONTROL, MOVES}
-use Rattle.opcodes.specs.Postbyte.{formOf, indexedOf, transferReserved, loopReserved, formReserved}
+use Rattle.opcodes.specs.Postbyte.{formOf, indexedOf, transferReserved, loopReserved}
 use Rattle.opcodes.specs.Rules.{plainGroup, bareGroup, unplaced}
 use Rattle.opcodes.proofs.Cells.{plain-unindexed}
 use Rattle.decode.specs.declared.Opcode.{Opcode}
 use Rattle.decode.specs.declared.Decoded.{Decoded}
-use Rattle.decode.specs.Decode.{opcodeAt, cellAt, decodedIs, decodedOf, plainOf, fetchedOf}
+use Rattle.decode.specs.Decode.{opcodeAt, cellAt, decodedIs, plainOf, fetchedOf}
 use Rattle.decode.proofs.Laws.{cell-of, bare-fetched, registers-fetched, control-fetched, operand-fetched}
 use Rattle.effect.specs.Effect.{quiet}
 use Rattle.machine.specs.declared.Reply.the-variants.{Done, ReservedPostbyte}

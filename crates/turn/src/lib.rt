@@ -5,6 +5,7 @@ use decode::Opcode;
 use effect::Effect;
 use machine::Machine;
 use machine::Reply;
+use opcodes::Cell;
 use opcodes::group;
 use opcodes::kind;
 use operand::Place;
@@ -12,13 +13,15 @@ use state::State;
 ghost use mathlib.Core.Path.{_≡_};
 ghost use mathlib.Core.Bool.{false};
 ghost use lib.ListN.{length};
+ghost use Rattle.word.specs.Word.{plusW};
+ghost use Rattle.state.specs.State.{withPc};
 ghost use Rattle.opcodes.specs.Grid.{grid as gridOf};
 ghost use Rattle.opcodes.specs.Map.{opcodeMap};
 ghost use Rattle.opcodes.specs.Kind.{groupOf, REGISTERS, CONTROL, MOVES};
 ghost use Rattle.opcodes.specs.Rules.{unplaced};
 ghost use Rattle.decode.specs.Decode.{Faithful, opcodeAt, cellAt, fetchedOf};
 ghost use Rattle.effect.specs.Effect.{quiet as quietOf};
-ghost use Rattle.machine.specs.declared.Reply.the-variants.{ReservedPostbyte};
+ghost use Rattle.machine.specs.declared.Reply.the-variants.{Done, ReservedPostbyte};
 ghost use Rattle.turn.specs.Turn.{controlled as controlledOf, placed, turnIs, instructed, turnOf};
 
 // A turn worked out: what is done, and the reply; nothing is done where the reply is Stopped or ReservedPostbyte.
@@ -51,11 +54,24 @@ fn turn_is(reply: Reply, e: Effect) -> Turn
     }
 }
 
+fn done(e: Effect) -> Turn
+    ensures { λ r. ⌜ r ≡ turnIs Done e ⌝ }
+{
+    turn_is(Reply::Done, e)
+}
+
 // A postbyte is reserved: nothing is done.
 fn reserved(s: State) -> Turn
     ensures { λ r. ⌜ r ≡ turnIs ReservedPostbyte (quietOf s 0) ⌝ }
 {
     turn_is(Reply::ReservedPostbyte, effect::quiet(s, 0))
+}
+
+// PC past an instruction that has the length of its cell.
+fn past(s: State, c: Cell) -> State
+    ensures { λ r. ⌜ r ≡ withPc s (plusW (s .pc) (c .length)) ⌝ }
+{
+    s.with_pc(word::plus(s.pc, c.length as u16))
 }
 
 // The transfers have a postbyte of their own, the others of the group do not ask for it.
@@ -70,11 +86,7 @@ fn registers(s: State, m: &[u8], opcode: Opcode) -> Turn
     if (c.kind == kind::TFR_EXG) & opcodes::transfer_reserved(postbyte) {
         return reserved(s);
     }
-    let next = word::plus(s.pc, c.length as u16);
-    turn_is(
-        Reply::Done,
-        execute16::registers(s.with_pc(next), c.kind, postbyte, c.cost),
-    )
+    done(execute16::registers(past(s, c), c.kind, postbyte, c.cost))
 }
 
 // And so have the loop primitives.
@@ -91,8 +103,7 @@ fn control(s: State, m: &[u8], opcode: Opcode) -> Turn
     }
     let form = opcodes::form_of(postbyte);
     let d = decode::decoded_is(s.pc, c, opcode.at, postbyte, form, c.cost);
-    let next = word::plus(s.pc, c.length as u16);
-    turn_is(Reply::Done, controlled(s.with_pc(next), m, d))
+    done(controlled(past(s, c), m, d))
 }
 
 // A move: it alone may have two postbytes, and is fetched whole.
@@ -105,7 +116,7 @@ fn moved(s: State, m: &[u8], fetched: Fetched) -> Turn
     match fetched {
         Fetched::Stop => turn_is(Reply::Stopped, effect::quiet(s, 0)),
         Fetched::Reserved => reserved(s),
-        Fetched::Instruction(d) => turn_is(Reply::Done, moves::moves(s.with_pc(d.next), m, d)),
+        Fetched::Instruction(d) => done(moves::moves(s.with_pc(d.next), m, d)),
     }
 }
 
@@ -151,10 +162,7 @@ fn operands(grid: &[[u8; 8]; 18], group: u16, s: State, m: &[u8], opcode: Opcode
         return reserved(s);
     }
     let place = found.place;
-    turn_is(
-        Reply::Done,
-        with_operand(group, place, m, c.kind, found.cost),
-    )
+    done(with_operand(group, place, m, c.kind, found.cost))
 }
 
 // What stands at PC. The group is chosen first, and then only what it needs is read and asked.
@@ -166,33 +174,31 @@ fn at_pc(map: &[u32; 512], grid: &[[u8; 8]; 18], s: State, m: &[u8]) -> Turn
 {
     let opcode = decode::opcode_at(map, m, s.pc);
     let c = opcode.cell;
-    let at = opcode.at;
     let group = opcodes::group_of(c.kind);
-    let next = word::plus(s.pc, c.length as u16);
     match group {
         group::STOPS => turn_is(Reply::Stopped, effect::quiet(s, 0)),
-        group::SHORT_BRANCHES => turn_is(
-            Reply::Done,
-            flow::short_branch(s.with_pc(next), c.kind, memory::read_byte(m, at), c.cost, 1),
-        ),
-        group::LONG_BRANCHES => turn_is(
-            Reply::Done,
-            flow::long_branch(s.with_pc(next), c.kind, memory::read_word(m, at), c.cost, 3),
-        ),
-        group::IN_A => turn_is(Reply::Done, execute8::in_a(s.with_pc(next), c.kind, c.cost)),
-        group::IN_B => turn_is(Reply::Done, execute8::in_b(s.with_pc(next), c.kind, c.cost)),
-        group::PRODUCTS => turn_is(
-            Reply::Done,
-            products::products(
-                s.with_pc(next),
-                m,
-                decode::decoded_is(s.pc, c, at, 0, 0, c.cost),
-            ),
-        ),
-        group::STACK => turn_is(
-            Reply::Done,
-            stack::stack(s.with_pc(next), m, c.kind, c.cost),
-        ),
+        group::SHORT_BRANCHES => done(flow::short_branch(
+            past(s, c),
+            c.kind,
+            memory::read_byte(m, opcode.at),
+            c.cost,
+            1,
+        )),
+        group::LONG_BRANCHES => done(flow::long_branch(
+            past(s, c),
+            c.kind,
+            memory::read_word(m, opcode.at),
+            c.cost,
+            3,
+        )),
+        group::IN_A => done(execute8::in_a(past(s, c), c.kind, c.cost)),
+        group::IN_B => done(execute8::in_b(past(s, c), c.kind, c.cost)),
+        group::PRODUCTS => done(products::products(
+            past(s, c),
+            m,
+            decode::decoded_is(s.pc, c, opcode.at, 0, 0, c.cost),
+        )),
+        group::STACK => done(stack::stack(past(s, c), m, c.kind, c.cost)),
         group::REGISTERS => registers(s, m, opcode),
         group::CONTROL => control(s, m, opcode),
         group::MOVES => moved(s, m, decode::fetch(map, grid, m, s.pc)),
@@ -212,12 +218,12 @@ pub fn turn_at(map: &[u32; 512], grid: &[[u8; 8]; 18], s: State, m: &[u8], line:
     let k = requests::allowed_line(f, line);
     if k < 8 {
         if standing.waiting {
-            return turn_is(Reply::Done, requests::wake(s, m, k));
+            return done(requests::wake(s, m, k));
         }
-        return turn_is(Reply::Done, requests::entry(s, m, k));
+        return done(requests::entry(s, m, k));
     }
     if standing.waiting {
-        return turn_is(Reply::Done, effect::quiet(s, Machine::IDLE_COST));
+        return done(effect::quiet(s, Machine::IDLE_COST));
     }
     at_pc(map, grid, s, m)
 }

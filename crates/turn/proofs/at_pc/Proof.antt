@@ -16,7 +16,7 @@ use Rattle.turn.proofs.at_pc.Tie as tie
 moved-asks : tie.Need-moved-requires
 moved-asks c κs =
     let told = c .before in
-    let asked = told .before .before .before in
+    let asked = told .before in
     let found = asked .before .before in
     let start = found .before .before in (
       start .pre .1 .1,
@@ -25,7 +25,7 @@ moved-asks c κs =
 
 operands-asks : tie.Need-operands-requires
 operands-asks c κs =
-    let asked = c .before .before .before in
+    let asked = c .before in
     let found = asked .before .before in
     let start = found .before .before in
     let not10 = c .match .rest in
@@ -66,7 +66,7 @@ stopped : tie.Need-returns
 unfolding instructed
 stopped c =
     let told = c .before .before in
-    let asked = told .before .before .before in
+    let asked = told .before in
     let found = asked .before .before in
     rw (
       stop-fetched _ _ _ (found .opcode-at .ensures) (sym (asked .group-of .ensures) ∙ told .match .keys1),
@@ -81,16 +81,14 @@ short-branch-done c =
     let read = worked .before in
     let past = read .before in
     let told = past .before in
-    let sum = told .before in
-    let asked = sum .before .before in
+    let asked = told .before in
     let found = asked .before .before in
     rw (
       bare-done _ _ (found .opcode-at .ensures) (asked .group-of .ensures) (rw (told .match .keys2)),
-      c .turn-is2 .ensures,
+      c .done .ensures,
       worked .short-branch .ensures,
       read .read-byte .ensures,
-      past .with-pc .ensures,
-      sum .plus .ensures,
+      past .past .ensures,
       ← (asked .group-of .ensures),
       told .match .keys2,
     )
@@ -102,16 +100,14 @@ long-branch-done c =
     let read = worked .before in
     let past = read .before in
     let told = past .before in
-    let sum = told .before in
-    let asked = sum .before .before in
+    let asked = told .before in
     let found = asked .before .before in
     rw (
       bare-done _ _ (found .opcode-at .ensures) (asked .group-of .ensures) (rw (told .match .keys3)),
-      c .turn-is3 .ensures,
+      c .done2 .ensures,
       worked .long-branch .ensures,
       read .read-word .ensures,
-      past .with-pc2 .ensures,
-      sum .plus .ensures,
+      past .past2 .ensures,
       ← (asked .group-of .ensures),
       told .match .keys3,
     )
@@ -122,15 +118,13 @@ in-a-done c =
     let worked = c .before in
     let past = worked .before in
     let told = past .before in
-    let sum = told .before in
-    let asked = sum .before .before in
+    let asked = told .before in
     let found = asked .before .before in
     rw (
       bare-done _ _ (found .opcode-at .ensures) (asked .group-of .ensures) (rw (told .match .keys4)),
-      c .turn-is4 .ensures,
+      c .done3 .ensures,
       worked .in-a .ensures,
-      past .with-pc3 .ensures,
-      sum .plus .ensures,
+      past .past3 .ensures,
       ← (asked .group-of .ensures),
       told .match .keys4,
     )
@@ -141,15 +135,13 @@ in-b-done c =
     let worked = c .before in
     let past = worked .before in
     let told = past .before in
-    let sum = told .before in
-    let asked = sum .before .before in
+    let asked = told .before in
     let found = asked .before .before in
     rw (
       bare-done _ _ (found .opcode-at .ensures) (asked .group-of .ensures) (rw (told .match .keys5)),
-      c .turn-is5 .ensures,
+      c .done4 .ensures,
       worked .in-b .ensures,
-      past .with-pc4 .ensures,
-      sum .plus .ensures,
+      past .past4 .ensures,
       ← (asked .group-of .ensures),
       told .match .keys5,
     )
@@ -161,16 +153,14 @@ products-done c =
     let built = worked .before in
     let past = built .before in
     let told = past .before in
-    let sum = told .before in
-    let asked = sum .before .before in
+    let asked = told .before in
     let found = asked .before .before in
     rw (
       bare-done _ _ (found .opcode-at .ensures) (asked .group-of .ensures) (rw (told .match .keys6)),
-      c .turn-is6 .ensures,
+      c .done5 .ensures,
       worked .products .ensures,
       built .decoded-is .ensures,
-      past .with-pc5 .ensures,
-      sum .plus .ensures,
+      past .past5 .ensures,
       ← (asked .group-of .ensures),
       told .match .keys6,
     )
@@ -181,15 +171,13 @@ stack-done c =
     let worked = c .before in
     let past = worked .before in
     let told = past .before in
-    let sum = told .before in
-    let asked = sum .before .before in
+    let asked = told .before in
     let found = asked .before .before in
     rw (
       bare-done _ _ (found .opcode-at .ensures) (asked .group-of .ensures) (rw (told .match .keys7)),
-      c .turn-is7 .ensures,
+      c .done6 .ensures,
       worked .stack .ensures,
-      past .with-pc6 .ensures,
-      sum .plus .ensures,
+      past .past6 .ensures,
       ← (asked .group-of .ensures),
       told .match .keys7,
     )
@@ -199,8 +187,6 @@ at-pc-spec =
     tie.close
     (tie.spec
     (λ c κs. search needs)
-    (λ c κs. search needs)
-    (λ c. search needs)
     (λ c κs. search needs)
     (λ c κs. search needs)
     (λ c κs. search needs)

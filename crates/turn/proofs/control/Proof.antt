@@ -1,4 +1,3 @@
-use mathlib.Core.Path.{sym}
 use borrow.Author.Needs.{needs}
 use Rattle.decode.proofs.Laws.{fetched-faithfully}
 use Rattle.turn.specs.Turn.{executed, instructed}
@@ -21,7 +20,7 @@ refused c =
 -- what was built is what would have been fetched
 faithful : tie.Need-controlled-requires
 faithful c κs =
-    let built = c .before .before .before in
+    let built = c .before in
     let form = built .before in
     let told = form .before in
     let asked = told .before in
@@ -38,18 +37,16 @@ unfolding instructed executed
 done c =
     let worked = c .before in
     let past = worked .before in
-    let sum = past .before in
-    let built = sum .before .before in
+    let built = past .before in
     let form = built .before in
     let told = form .before in
     let asked = told .before in
     let read = asked .before .before in
     let start = read .before .before .before in
     rw (
-      c .turn-is .ensures,
+      c .done .ensures,
       worked .controlled .ensures,
-      past .with-pc .ensures,
-      sum .plus .ensures,
+      past .past .ensures,
       plain-decoded (start .args .m .now) (start .args .s .pc) (start .pre .1 .0) (rw (start .pre .1 .1)) (read .read-byte .ensures) (form .form-of .ensures) (built .decoded-is .ensures),
       control-free (start .args .m .now) (start .args .s .pc) (start .pre .1 .0) (start .pre .1 .1) (read .read-byte .ensures) (asked .loop-reserved .ensures) (told .if1 .left),
       start .pre .1 .1,
@@ -64,8 +61,6 @@ control-spec =
     (λ c κs. search needs)
     refused
     (λ c κs. search needs)
-    (λ c κs. search needs)
-    (λ c. search needs)
     (λ c κs. search needs)
     (λ c κs. search needs)
     faithful

@@ -33,7 +33,7 @@ done c =
     let fetched = sym (start .pre .1 .0) ∙ told .fetched .given .1 in
     rw (
       told .fetched .given .1,
-      c .turn-is2 .ensures,
+      c .done .ensures,
       worked .moves .ensures,
       past .with-pc .ensures,
       ap groupOf (fetched-kind _ _ _ fetched) ∙ start .pre .1 .1,

@@ -17,7 +17,7 @@ done c =
     let found = told .before in
     let asked = found .before .before .before .pre .1 .1 in
     rw (
-      c .turn-is .ensures,
+      c .done .ensures,
       worked .with-operand .ensures,
       operand-done _ _ (asked .0) (asked .1 .0) (asked .1 .1) (found .located .ensures) (told .if1 .left),
     )

@@ -22,16 +22,14 @@ unfolding instructed executed registersEffect
 done c =
     let worked = c .before in
     let past = worked .before in
-    let sum = past .before in
-    let told = sum .before .before in
+    let told = past .before in
     let asked = told .before in
     let read = asked .before .before in
     let start = read .before .before .before in
     rw (
-      c .turn-is .ensures,
+      c .done .ensures,
       worked .registers .ensures,
-      past .with-pc .ensures,
-      sum .plus .ensures,
+      past .past .ensures,
       registers-free _ _ (start .pre .1 .0) (start .pre .1 .1) (read .read-byte .ensures) (asked .transfer-reserved .ensures) (told .if1 .left),
       start .pre .1 .1,
       read .read-byte .ensures,
@@ -45,8 +43,6 @@ registers-spec =
     (λ c κs. search needs)
     (λ c κs. search needs)
     refused
-    (λ c. search needs)
-    (λ c κs. search needs)
     (λ c κs. search needs)
     (λ c κs. search needs)
     (λ c κs. search needs)

@@ -10,7 +10,7 @@ woken c =
     let waits = c .before .before in
     let allowed = waits .before in
     rw (
-      c .turn-is .ensures,
+      c .done .ensures,
       c .before .wake .ensures,
       ← (allowed .before .allowed-line .ensures),
       lt-ltb _ _ (allowed .if1 .taken),
@@ -23,7 +23,7 @@ entered c =
     let waits = c .before .before in
     let allowed = waits .before in
     rw (
-      c .turn-is2 .ensures,
+      c .done2 .ensures,
       c .before .entry .ensures,
       ← (allowed .before .allowed-line .ensures),
       lt-ltb _ _ (allowed .if1 .taken),
@@ -36,7 +36,7 @@ idle c =
     let waits = c .before .before in
     let allowed = waits .before in
     rw (
-      c .turn-is3 .ensures,
+      c .done3 .ensures,
       c .before .quiet .ensures,
       ← (allowed .before .allowed-line .ensures),
       le-ltb _ _ (allowed .if1 .left),
