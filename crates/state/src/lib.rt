@@ -5,16 +5,17 @@ ghost use Prim.Native.Nat.{_≤_};
 ghost use Rattle.state.specs.Ccr.{noFlags, setS, setX, setH, setI, setN, setZ, setV, setC, weightOf, ccrOf, flagsOf, takeCcr};
 ghost use Rattle.state.specs.State.{noStanding, setWaiting, noState, withA, withB, withD, withX, withY, withSp, withPc, withFlags, withStanding, withWaiting, withClock, dOf};
 
-// The condition code register, bit 7 first.
+// The condition code register, bit 0 first: most instructions set C, V, Z and N alone, which are then the low half of eight bytes
+// (docs/SPEED.md).
 pub struct Flags {
-    pub s: bool,
-    pub x: bool,
-    pub h: bool,
-    pub i: bool,
-    pub n: bool,
-    pub z: bool,
-    pub v: bool,
     pub c: bool,
+    pub v: bool,
+    pub z: bool,
+    pub n: bool,
+    pub i: bool,
+    pub h: bool,
+    pub x: bool,
+    pub s: bool,
 }
 
 // What a machine carries from step to step beside its registers and its clock. What a later edition has to remember is a field here:
@@ -23,17 +24,18 @@ pub struct Standing {
     pub waiting: bool,
 }
 
-// In this order the eight flags begin at a multiple of eight bytes, and a state is copied in whole words (docs/SPEED.md).
+// The order decides which fields the compiler joins into one number, to be taken apart again at each use; this one was found by counting
+// the host's instructions (docs/SPEED.md, "The order of the fields").
 pub struct State {
+    pub clock: u32,
+    pub a: u8,
+    pub flags: Flags,
+    pub b: u8,
     pub x: u16,
     pub y: u16,
     pub sp: u16,
     pub pc: u16,
-    pub flags: Flags,
-    pub a: u8,
-    pub b: u8,
     pub standing: Standing,
-    pub clock: u32,
 }
 
 impl Flags {
