@@ -31,10 +31,10 @@ pub struct State {
     pub a: u8,
     pub flags: Flags,
     pub b: u8,
+    pub pc: u16,
+    pub sp: u16,
     pub x: u16,
     pub y: u16,
-    pub sp: u16,
-    pub pc: u16,
     pub standing: Standing,
 }
 
