@@ -23,7 +23,7 @@ AsLent l r m = (stateBytes (l .state) ≡ stateBytes r) × (l .memory ≡ m)
 
 -- a step that the machine refuses leaves them so, and so does a run
 abbrev pub RefusedStepKeeps : Type 0
-RefusedStepKeeps = (r m : List ℕ) (line : ℕ) → AreBytes r → (refusal (stateOf r) m ≡ 0 → ⊥) → AsLent (stepLeaves r m line) r m
+RefusedStepKeeps = (r m : List ℕ) (line : ℕ) → AreBytes r → (refusal (stateOf r) m line ≡ 0 → ⊥) → AsLent (stepLeaves r m line) r m
 
 abbrev pub RefusedRunKeeps : Type 0
 RefusedRunKeeps =

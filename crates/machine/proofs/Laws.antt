@@ -5,7 +5,7 @@ use mathlib.Core.Path.{_≡_, refl, sym, _∙_, ap}
 use lib.Dec.{eqb}
 use Rattle.word.specs.Word.{pick}
 use Rattle.machine.specs.declared.Reply.{Reply}
-use Rattle.machine.specs.declared.Reply.the-variants.{Done, WrongMemory, WrongSchedule, PastLimit, Stopped, ReservedPostbyte}
+use Rattle.machine.specs.declared.Reply.the-variants.{Done, WrongMemory, WrongSchedule, PastLimit, Stopped, ReservedPostbyte, WrongLine}
 use Rattle.machine.specs.Names.{numberOf, InNumbers}
 
 -- the reply of a number
@@ -13,7 +13,8 @@ replyOf : ℕ → Reply
 replyOf n =
     pick (eqb n 0) Done
     (pick (eqb n 1) WrongMemory
-    (pick (eqb n 2) WrongSchedule (pick (eqb n 3) PastLimit (pick (eqb n 4) Stopped ReservedPostbyte))))
+    (pick (eqb n 2) WrongSchedule
+    (pick (eqb n 3) PastLimit (pick (eqb n 4) Stopped (pick (eqb n 5) ReservedPostbyte WrongLine)))))
 
 back : (r : Reply) → replyOf (numberOf r) ≡ r
 unfolding replyOf
@@ -23,6 +24,7 @@ back WrongSchedule = refl
 back PastLimit = refl
 back Stopped = refl
 back ReservedPostbyte = refl
+back WrongLine = refl
 
 -- replies with the same number are the same
 pub same-reply : (r r′ : Reply) → numberOf r ≡ numberOf r′ → r ≡ r′
@@ -32,13 +34,14 @@ same-reply r r′ e = sym (back r) ∙ (ap replyOf e ∙ back r′)
 pub number-zero : (r : Reply) → numberOf r ≡ 0 → r ≡ Done
 number-zero r e = same-reply r Done e
 
-pub number-most : (r : Reply) → numberOf r ≤ 5
+pub number-most : (r : Reply) → numberOf r ≤ 15
 number-most Done = omega arith
 number-most WrongMemory = omega arith
 number-most WrongSchedule = omega arith
 number-most PastLimit = omega arith
 number-most Stopped = omega arith
 number-most ReservedPostbyte = omega arith
+number-most WrongLine = omega arith
 
 pub in-numbers : InNumbers
 in-numbers = record { vectors = refl; costs = refl; limits = refl }

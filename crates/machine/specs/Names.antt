@@ -4,7 +4,7 @@ use mathlib.Core.Path.{_≡_}
 use mathlib.Core.List.{List, [], _∷_}
 use Rattle.word.specs.Word.{minusW}
 use Rattle.machine.specs.declared.Reply.{Reply}
-use Rattle.machine.specs.declared.Reply.the-variants.{Done, WrongMemory, WrongSchedule, PastLimit, Stopped, ReservedPostbyte}
+use Rattle.machine.specs.declared.Reply.the-variants.{Done, WrongMemory, WrongSchedule, PastLimit, Stopped, ReservedPostbyte, WrongLine}
 
 -- "Numbered replies": the number of each reply
 abbrev pub numberOf : Reply → ℕ
@@ -14,6 +14,7 @@ numberOf WrongSchedule = 2
 numberOf PastLimit = 3
 numberOf Stopped = 4
 numberOf ReservedPostbyte = 5
+numberOf WrongLine = 15
 
 -- the bytes of the memory
 abbrev pub memorySize : ℕ
@@ -46,6 +47,10 @@ swiVector = 0xFFF6
 abbrev pub lineVector : ℕ → ℕ
 lineVector k = minusW 0xFFF4 (2 * k)
 
+-- the lines of request are 0 to 5; where one is asked for and there is none, this number stands
+abbrev pub noLine : ℕ
+noLine = 6
+
 -- the costs of an entry, of the end of a wait (WAI's second part, fVfPPP), and of an idle cycle
 abbrev pub entryCost : ℕ
 entryCost = 9
@@ -58,10 +63,10 @@ idleCost = 1
 
 -- All of them in plain numbers, so that none can be changed here and in the code together. Proved as `in-numbers` in proofs/Laws.antt.
 pub record InNumbers : Type 0 where
-  -- from FFE6 upward, at every second address, the vectors of the lines 7 to 0, of SWI and of the traps; and that of reset
+  -- from FFEA upward, at every second address, the vectors of the lines 5 to 0, of SWI and of the traps; and that of reset
   pub vectors :
-      lineVector 7 ∷ lineVector 6 ∷ lineVector 5 ∷ lineVector 4 ∷ lineVector 3 ∷ lineVector 2 ∷ lineVector 1 ∷ lineVector 0 ∷ swiVector ∷ trapVector ∷ resetVector ∷ []
-      ≡ 0xFFE6 ∷ 0xFFE8 ∷ 0xFFEA ∷ 0xFFEC ∷ 0xFFEE ∷ 0xFFF0 ∷ 0xFFF2 ∷ 0xFFF4 ∷ 0xFFF6 ∷ 0xFFF8 ∷ 0xFFFE ∷ []
+      lineVector 5 ∷ lineVector 4 ∷ lineVector 3 ∷ lineVector 2 ∷ lineVector 1 ∷ lineVector 0 ∷ swiVector ∷ trapVector ∷ resetVector ∷ []
+      ≡ 0xFFEA ∷ 0xFFEC ∷ 0xFFEE ∷ 0xFFF0 ∷ 0xFFF2 ∷ 0xFFF4 ∷ 0xFFF6 ∷ 0xFFF8 ∷ 0xFFFE ∷ []
   -- an entry costs as much as SWI, the end of a wait six letters, an idle cycle one
   pub costs : entryCost ∷ wakeCost ∷ idleCost ∷ [] ≡ 9 ∷ 6 ∷ 1 ∷ []
   pub limits : memorySize ∷ recordLimit ∷ budgetLimit ∷ clockLimit ∷ stepLimit ∷ [] ≡ 65536 ∷ 64 ∷ 100000000 ∷ 4000000000 ∷ 3999999900 ∷ []

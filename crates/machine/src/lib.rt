@@ -13,6 +13,7 @@ pub enum Reply {
     PastLimit,
     Stopped,
     ReservedPostbyte,
+    WrongLine,
 }
 
 impl Reply {
@@ -26,6 +27,7 @@ impl Reply {
             Reply::PastLimit => 3,
             Reply::Stopped => 4,
             Reply::ReservedPostbyte => 5,
+            Reply::WrongLine => 15,
         }
     }
 }
@@ -68,6 +70,8 @@ impl Machine {
     pub const SWI_VECTOR: u16 = 0xFFF6;
 
     pub const XIRQ_VECTOR: u16 = 0xFFF4;
+
+    pub const NO_LINE: u8 = 6;
 
     pub const ENTRY_COST: u8 = 9;
 

@@ -3,15 +3,17 @@ use Prim.Native.Nat.{ℕ, zero, suc, _-_, _<_, _≤_}
 use native.Mathlib.Omega.{arith}
 use mathlib.Core.Path.{_≡_, refl}
 use mathlib.Core.Bool.{Bool, true, false, not}
-use mathlib.Core.List.{List}
+use mathlib.Core.List.{List, [], _∷_}
 use lib.Dec.{ltb, eqb}
 use lib.ListN.{length}
 use Rattle.word.specs.Word.{pick}
 use Rattle.state.specs.declared.State.{State}
 use Rattle.word.proofs.Laws.{both}
-use Rattle.schedule.specs.Schedule.{accepted}
+use Rattle.opcodes.specs.Rules.{among}
+use Rattle.schedule.specs.Schedule.{accepted, anyWithdrawn}
+use Rattle.machine.specs.declared.Reply.{Reply}
+use Rattle.machine.specs.declared.Reply.the-variants.{Done, WrongMemory, WrongSchedule, PastLimit, Stopped, ReservedPostbyte, WrongLine}
 use Rattle.machine.specs.Names.{numberOf, memorySize, recordLimit}
-use Rattle.machine.proofs.Laws.{number-most}
 use Rattle.memory.specs.Memory.{AreBytes}
 use Rattle.refusals.specs.Given.{Given, lineIn}
 use Rattle.steps.specs.End.{End, endsHere}
@@ -24,33 +26,43 @@ use Rattle.run.proofs.Refusals.{run-refused}
 use Rattle.run.proofs.OneStep.{costs-one, turn-rests}
 use Rattle.walk.specs.Words.{Words}
 use Rattle.promises.specs.Steps.{afterSteps}
-use Rattle.promises.specs.Always.{EveryRunReplies, EveryRunEnds, AStepNotDoneChangesNothing, ARefusedRunChangesNothing}
+use Rattle.promises.specs.Always.{replies, EveryRunReplies, EveryRunEnds, AStepNotDoneChangesNothing, ARefusedRunChangesNothing}
 use Rattle.promises.proofs.Words.{every-boundary-has-words}
 
 -- an end whose reply is one of the numbers
 abbrev Replies : End → Type 0
-Replies e = e .reply ≤ 5
+Replies e = among (e .reply) replies ≡ true
+
+-- every reply has
+numbered : (r : Reply) → among (numberOf r) replies ≡ true
+numbered Done = refl
+numbered WrongMemory = refl
+numbered WrongSchedule = refl
+numbered PastLimit = refl
+numbered Stopped = refl
+numbered ReservedPostbyte = refl
+numbered WrongLine = refl
 
 goes-replies : (k : ℕ) (s : State) (m : List ℕ) (given : Given) (left : ℕ) → Replies (goesOn k given s m left)
 unfolding goesOn
-goes-replies zero s m given left = omega arith
+goes-replies zero s m given left = refl
 goes-replies (suc k) s m given left =
-    both Replies (not (eqb (numberOf (turnAt given s m .reply)) 0)) _ _ (number-most (turnAt given s m .reply))
-    (both Replies (ltb left (turnAt given s m .effect .cost)) _ _ (omega arith)
+    both Replies (not (eqb (numberOf (turnAt given s m .reply)) 0)) _ _ (numbered (turnAt given s m .reply))
+    (both Replies (ltb left (turnAt given s m .effect .cost)) _ _ refl
     (goes-replies k (nextState given s m) (nextMemory given s m) given (left - turnAt given s m .effect .cost)))
 
--- a refusal is 3 at most
-pub refusal-most : (s : State) (m : List ℕ) (given : Given) (budget : ℕ) → runRefusal s m given budget ≤ 3
-refusal-most s m given budget =
-    both (λ (n : ℕ). n ≤ 3) (not (eqb (length m) memorySize)) _ _ (omega arith)
-    (both (λ (n : ℕ). n ≤ 3) (not (accepted recordLimit (given .cycles) (given .lines))) _ _ (omega arith)
-    (both (λ (n : ℕ). n ≤ 3) (pastLimit (s .clock) budget) _ _ (omega arith) (omega arith)))
+-- what is so of 0, 1, 2, 15 and 3 is so of what a run is refused with
+pub of-refusal : (P : ℕ → Type 0) → P 0 → P 1 → P 2 → P 15 → P 3 → (s : State) (m : List ℕ) (given : Given) (budget : ℕ) → P (runRefusal s m given budget)
+of-refusal P none memory schedule line limit s m given budget =
+    both P (not (eqb (length m) memorySize)) _ _ memory
+    (both P (not (accepted recordLimit (given .cycles) (given .lines))) _ _ schedule
+    (both P (anyWithdrawn (given .lines)) _ _ line (both P (pastLimit (s .clock) budget) _ _ limit none)))
 
 pub every-run-replies : EveryRunReplies
 unfolding runOf
 every-run-replies s m given budget =
-    let most = refusal-most s m given budget in
-    both Replies (eqb (runRefusal s m given budget) 0) _ _ (goes-replies (suc budget) s m given budget) (omega (arith, most))
+    both Replies (eqb (runRefusal s m given budget) 0) _ _ (goes-replies (suc budget) s m given budget)
+    (of-refusal (λ (n : ℕ). among n replies ≡ true) refl refl refl refl refl s m given budget)
 
 -- steps that were done have used a cycle each
 used-by :
@@ -75,12 +87,12 @@ every-run-ends s m given budget steps w bytes is =
 
 pub a-step-not-done-changes-nothing : AStepNotDoneChangesNothing
 unfolding stepOf
-a-step-not-done-changes-nothing s m line = go (eqb (refusal s m) 0)
+a-step-not-done-changes-nothing s m line = go (eqb (refusal s m line) 0)
   where
     go :
         (b : Bool) →
-        (pick b (turnEnd s m line) (endsHere (refusal s m) s m) .reply ≡ 0 → ⊥) →
-        pick b (turnEnd s m line) (endsHere (refusal s m) s m) ≡ endsHere (pick b (turnEnd s m line) (endsHere (refusal s m) s m) .reply) s m
+        (pick b (turnEnd s m line) (endsHere (refusal s m line) s m) .reply ≡ 0 → ⊥) →
+        pick b (turnEnd s m line) (endsHere (refusal s m line) s m) ≡ endsHere (pick b (turnEnd s m line) (endsHere (refusal s m line) s m) .reply) s m
     go false other = refl
     go true other = turn-rests s m line other
 

@@ -20,7 +20,7 @@ use Rattle.frames.specs.Frames.{interruptEffect, waitEffect}
 use Rattle.flow.specs.Branches.{shortEffect, longEffect}
 use Rattle.machine.specs.declared.Reply.{Reply}
 use Rattle.machine.specs.declared.Reply.the-variants.{Done}
-use Rattle.machine.specs.Names.{numberOf, idleCost}
+use Rattle.machine.specs.Names.{numberOf, noLine, idleCost}
 use Rattle.machine.proofs.Laws.{number-zero}
 use Rattle.requests.specs.Requests.{allowedLine, entryEffect, wakeEffect}
 use Rattle.turn.specs.Turn.{executed, turnIs, instructed, turnOf}
@@ -93,7 +93,7 @@ instructed-cost s m = go (stopsOf (cellAt m (s .pc))) (reservedAt m (cellAt m (s
 
 pub a-step-costs-what-is-tabled : AStepCostsWhatIsTabled
 unfolding turnOf wakeEffect entryEffect interruptEffect
-a-step-costs-what-is-tabled s m line = go (ltb k 8) (s .standing .waiting)
+a-step-costs-what-is-tabled s m line = go (ltb k noLine) (s .standing .waiting)
   where
     k : ℕ
     k = allowedLine (s .flags) line
@@ -112,12 +112,12 @@ a-step-costs-what-is-tabled s m line = go (ltb k 8) (s .standing .waiting)
 
 pub a-single-step-uses-what-is-tabled : ASingleStepUsesWhatIsTabled
 unfolding stepOf
-a-single-step-uses-what-is-tabled s m line = go (eqb (refusal s m) 0) refl
+a-single-step-uses-what-is-tabled s m line = go (eqb (refusal s m line) 0) refl
   where
     go :
-        (b : Bool) → eqb (refusal s m) 0 ≡ b →
-        pick b (turnEnd s m line) (endsHere (refusal s m) s m) .reply ≡ 0 →
-        pick b (turnEnd s m line) (endsHere (refusal s m) s m) .cycles ≡ tabledCost s m line
+        (b : Bool) → eqb (refusal s m line) 0 ≡ b →
+        pick b (turnEnd s m line) (endsHere (refusal s m line) s m) .reply ≡ 0 →
+        pick b (turnEnd s m line) (endsHere (refusal s m line) s m) .cycles ≡ tabledCost s m line
     go true is done = a-step-costs-what-is-tabled s m line (number-zero _ done)
     go false is done = absurd (eqb-false _ _ is done)
 

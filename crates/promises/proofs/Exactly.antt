@@ -31,6 +31,11 @@ pub unless : (t : Bool) {P : Type 0} → (t ≡ false) ↔ P → (t ≡ true) �
 unless true is = (λ e p. true≢false (is .1 p), λ n. refl)
 unless false is = (λ e. absurd (true≢false (sym e)), λ n. absurd (n (is .0 refl)))
 
+-- and what a test says that holds is not so where it fails
+pub without : (t : Bool) {P : Type 0} → (t ≡ true) ↔ P → (t ≡ false) ↔ (P → ⊥)
+without true is = (λ e. absurd (true≢false e), λ n. absurd (n (is .0 refl)))
+without false is = (λ e p. true≢false (sym (is .1 p)), λ n. refl)
+
 -- one of two tests holds
 pub either : (p q : Bool) {P Q : Type 0} → (p ≡ true) ↔ P → (q ≡ true) ↔ Q → (p || q ≡ true) ↔ (P ⊎ Q)
 either true q is-p is-q = (λ e. inl (is-p .0 refl), λ x. refl)

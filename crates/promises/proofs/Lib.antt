@@ -4,6 +4,7 @@ pub mod Store
 pub mod Outcome
 pub mod Steps
 pub mod Masks
+pub mod BadLines
 pub mod Boundaries
 pub mod Warning
 pub mod Lines

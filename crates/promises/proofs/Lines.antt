@@ -22,7 +22,7 @@ use Rattle.decode.specs.Decode.{secondReserved, reservedAt, decodedIs, decodedO
 use Rattle.effect.specs.Effect.{quiet}
 use Rattle.frames.specs.Frames.{frameOf, frameStore, interruptEffect}
 use Rattle.machine.specs.declared.Reply.the-variants.{Done}
-use Rattle.machine.specs.Names.{lineVector}
+use Rattle.machine.specs.Names.{lineVector, noLine}
 use Rattle.requests.proofs.Laws.{lowest-first}
 use Rattle.requests.specs.Requests.{lowestLine, allowedLine, masked, entryEffect, wakeEffect}
 use Rattle.turn.specs.declared.Turn.{Turn}
@@ -64,7 +64,7 @@ other-allowed f line shut clear = rw (xirq-shut f line shut, clear)
 -- Each line by its vector, where every line that is to be entered goes by its own.
 vectors :
     (s : State) (line : ℕ) (Goes : ℕ → Bool → Type 0) →
-    ((k : ℕ) → k < 8 → allowedLine (s .flags) line ≡ k → Goes (lineVector k) (masked k (s .flags) .x)) →
+    ((k : ℕ) → k < noLine → allowedLine (s .flags) line ≡ k → Goes (lineVector k) (masked k (s .flags) .x)) →
     Vectors s line Goes
 vectors s line Goes goes =
     record {
@@ -76,8 +76,6 @@ vectors s line Goes goes =
             λ up. goes 3 (omega arith) (is ∙ lowest-first line .three up),
             λ up. goes 4 (omega arith) (is ∙ lowest-first line .four up),
             λ up. goes 5 (omega arith) (is ∙ lowest-first line .five up),
-            λ up. goes 6 (omega arith) (is ∙ lowest-first line .six up),
-            λ up. goes 7 (omega arith) (is ∙ lowest-first line .seven up),
           );
     }
 
@@ -113,16 +111,16 @@ masked-i : (k : ℕ) (f : Flags) → masked k f .i ≡ true
 masked-i k f = both (λ (g : Flags). g .i ≡ true) (eqb k 0) _ _ refl refl
 
 entry-turn :
-    (s : State) (m : List ℕ) (line k : ℕ) → allowedLine (s .flags) line ≡ k → k < 8 → s .standing .waiting ≡ false →
+    (s : State) (m : List ℕ) (line k : ℕ) → allowedLine (s .flags) line ≡ k → k < noLine → s .standing .waiting ≡ false →
     turnOf s m line ≡ turnIs Done (interruptEffect s m (lineVector k) (masked k (s .flags)) 9)
 unfolding turnOf entryEffect
-entry-turn s m line k is low awake = rw (is, lt-ltb k 8 low, awake)
+entry-turn s m line k is low awake = rw (is, lt-ltb k noLine low, awake)
 
 wake-turn :
-    (s : State) (m : List ℕ) (line k : ℕ) → allowedLine (s .flags) line ≡ k → k < 8 → s .standing .waiting ≡ true →
+    (s : State) (m : List ℕ) (line k : ℕ) → allowedLine (s .flags) line ≡ k → k < noLine → s .standing .waiting ≡ true →
     turnOf s m line ≡ turnIs Done (wakeEffect s m k)
 unfolding turnOf
-wake-turn s m line k is low waits = rw (is, lt-ltb k 8 low, waits)
+wake-turn s m line k is low waits = rw (is, lt-ltb k noLine low, waits)
 
 pub every-request : EveryRequest
 every-request s m line words whole awake =
@@ -149,15 +147,15 @@ every-end-of-a-wait s m line waits =
     })
 
 -- none is let through
-none-allowed : (f : Flags) (line : ℕ) → (f .x ≡ false → line % 2 ≡ 0) → (f .i ≡ false → line / 2 % 128 ≡ 0) → allowedLine f line ≡ 8
+none-allowed : (f : Flags) (line : ℕ) → (f .x ≡ false → line % 2 ≡ 0) → (f .i ≡ false → line / 2 % 32 ≡ 0) → allowedLine f line ≡ noLine
 unfolding allowedLine
 none-allowed f line shut none = rw (xirq-shut f line shut) (go (f .i) refl)
   where
-    go : (i : Bool) → f .i ≡ i → pick i 8 (lowestLine line) ≡ 8
+    go : (i : Bool) → f .i ≡ i → pick i noLine (lowestLine line) ≡ noLine
     go true is = refl
     go false is = lowest-first line .none (none is)
 
-pub none-up : (f : Flags) → allowedLine f 0 ≡ 8
+pub none-up : (f : Flags) → allowedLine f 0 ≡ noLine
 none-up f = none-allowed f 0 (λ _. refl) (λ _. refl)
 
 pub every-masked-request : EveryMaskedRequest

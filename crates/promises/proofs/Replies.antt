@@ -13,7 +13,7 @@ use Rattle.word.specs.Word.{pick}
 use Rattle.word.proofs.Laws.{both}
 use Rattle.memory.specs.Memory.{AreBytes}
 use Rattle.state.specs.declared.State.{State}
-use Rattle.schedule.specs.Schedule.{risingAfter, rising, accepted}
+use Rattle.schedule.specs.Schedule.{risingAfter, rising, accepted, withdrawn, anyWithdrawn}
 use Rattle.machine.specs.Names.{numberOf}
 use Rattle.machine.proofs.Laws.{number-zero}
 use Rattle.turn.specs.Turn.{turnOf}
@@ -28,13 +28,14 @@ use Rattle.run.proofs.Refusals.{step-refused, step-taken, run-refused, run-take
 use Rattle.walk.specs.Words.{Words}
 use Rattle.promises.specs.Replies.{StepAccepted, BadSchedule, RunAccepted, StopsAtEnd, IsReservedAtEnd, CostsMoreThanLeft}
 use Rattle.promises.specs.Replies.BadSchedule.{long, falls, uneven}
-use Rattle.promises.specs.Replies.{ResetGivesZero, ResetGivesOne, StepGivesOne, StepGivesThree, StepGivesFour, StepGivesFive, StepGivesZero}
-use Rattle.promises.specs.Replies.{RunGivesOne, RunGivesTwo, RunGivesThree, RunGivesFour, RunGivesFive, RunGivesZero}
+use Rattle.promises.specs.Replies.{ResetGivesZero, ResetGivesOne, StepGivesOne, StepGivesFifteen, StepGivesThree, StepGivesFour, StepGivesFive, StepGivesZero}
+use Rattle.promises.specs.Replies.{RunGivesOne, RunGivesTwo, RunGivesFifteen, RunGivesThree, RunGivesFour, RunGivesFive, RunGivesZero}
 use Rattle.promises.proofs.Steps.{a-run-is-its-steps, words-after, within-the-budget}
-use Rattle.promises.proofs.Always.{refusal-most}
+use Rattle.promises.proofs.Always.{of-refusal}
 use Rattle.promises.proofs.Costs.{a-step-costs-what-is-tabled}
 use Rattle.promises.proofs.Exactly.{then, each, denied, affirmed, unless, either, above, here, later, picked}
-use Rattle.promises.proofs.Due.{four-due, five-due, none-between, none-due}
+use Rattle.promises.proofs.Due.{Other, other-than, four-due, five-due, none-other, none-due}
+use Rattle.promises.proofs.BadLines.{bad-line, good-line, bad-lines, good-lines}
 
 -- the test of the memory's length, each way
 whole : (m : List ℕ) → (not (eqb (length m) 65536) ≡ false) ↔ (length m ≡ 65536)
@@ -55,7 +56,7 @@ reset-gives-one m =
 abbrev Replied : ℕ → ℕ → ℕ → Type 0
 Replied reply r n = ((r ≡ 0 → ⊥) → reply ≡ r) × (r ≡ 0 → reply ≡ n)
 
--- 1 to 3 are a refusal's
+-- a number of a refusal is a refusal's
 is-refused : {reply r n k : ℕ} → Replied reply r n → (k ≡ 0 → ⊥) → (n ≡ k → ⊥) → (reply ≡ k) ↔ (r ≡ k)
 is-refused {reply} {r} {n} {k} is some other = (λ e. go (ℕ-discrete r 0) e, λ e. is .0 (λ z. some (sym e ∙ z)) ∙ e)
   where
@@ -72,48 +73,61 @@ is-taken {reply} {r} {n} {k} is none = (λ e. go (ℕ-discrete r 0) e, λ p. is 
     go (no held) e = absurd (held (none (sym (is .0 held) ∙ e)))
 
 -- the step
-step-replied : (s : State) (m : List ℕ) (line : ℕ) → Replied (stepOf s m line .reply) (refusal s m) (numberOf (turnOf s m line .reply))
+step-replied : (s : State) (m : List ℕ) (line : ℕ) → Replied (stepOf s m line .reply) (refusal s m line) (numberOf (turnOf s m line .reply))
 step-replied s m line = (λ held. ap (λ (e : End). e .reply) (step-refused s m line held), λ free. ap (λ (e : End). e .reply) (step-taken s m line free))
 
-step-accepted : (s : State) (m : List ℕ) → (refusal s m ≡ 0) ↔ StepAccepted s m
-step-accepted s m = (
-  λ e. let free = is-step-free s m e in record { memory = free .whole; clock = free .near },
-  λ a. rw (eq-eqb (length m) 65536 (a .memory), le-ltb 3999999900 (s .clock) (a .clock)),
+step-accepted : (s : State) (m : List ℕ) (line : ℕ) → (refusal s m line ≡ 0) ↔ StepAccepted s m line
+step-accepted s m line = (
+  λ e. let free = is-step-free s m line e in record { memory = free .whole; asked = good-line line .0 (free .asked); clock = free .near },
+  λ a. rw (eq-eqb (length m) 65536 (a .memory), good-line line .1 (a .asked), le-ltb 3999999900 (s .clock) (a .clock)),
 )
+
+-- so a number that no turn has is the refusal's
+step-is-refused : (s : State) (m : List ℕ) (line k : ℕ) → Other k → (stepOf s m line .reply ≡ k) ↔ (refusal s m line ≡ k)
+step-is-refused s m line k other = is-refused (step-replied s m line) (λ e. other-than refl other (sym e)) (none-other s m line k other)
 
 pub step-gives-one : StepGivesOne
 step-gives-one s m line =
-    then (is-refused (step-replied s m line) (λ e. omega (arith, e)) (none-between s m line 1 (omega arith) (omega arith)))
-    (here (not (eqb (length m) 65536)) (picked (ltb 3999999900 (s .clock)) (λ e. omega (arith, e)) (λ e. omega (arith, e))) (not-whole m))
+    then (step-is-refused s m line 1 refl)
+    (here (not (eqb (length m) 65536))
+    (picked (withdrawn line) (λ e. omega (arith, e)) (picked (ltb 3999999900 (s .clock)) (λ e. omega (arith, e)) (λ e. omega (arith, e))))
+    (not-whole m))
+
+pub step-gives-fifteen : StepGivesFifteen
+step-gives-fifteen s m line =
+    then (step-is-refused s m line 15 refl)
+    (later (not (eqb (length m) 65536)) (λ e. omega (arith, e)) (whole m)
+    (here (withdrawn line) (picked (ltb 3999999900 (s .clock)) (λ e. omega (arith, e)) (λ e. omega (arith, e))) (bad-line line)))
 
 pub step-gives-three : StepGivesThree
 step-gives-three s m line =
-    then (is-refused (step-replied s m line) (λ e. omega (arith, e)) (none-between s m line 3 (omega arith) (omega arith)))
+    then
+    (then (step-is-refused s m line 3 refl)
     (later (not (eqb (length m) 65536)) (λ e. omega (arith, e)) (whole m)
-    (here (ltb 3999999900 (s .clock)) (λ e. omega (arith, e)) (above 3999999900 (s .clock) (λ h. omega (arith, h)) (λ h. omega (arith, h)))))
+    (later (withdrawn line) (λ e. omega (arith, e)) (good-line line)
+    (here (ltb 3999999900 (s .clock)) (λ e. omega (arith, e)) (above 3999999900 (s .clock) (λ h. omega (arith, h)) (λ h. omega (arith, h)))))))
+    (λ p. (p .0, p .1 .0, p .1 .1), λ p. (p .0, (p .1, p .2)))
 
--- a refusal of a step is 3 at most
-step-refusal-most : (s : State) (m : List ℕ) → refusal s m ≤ 3
-step-refusal-most s m = go (not (eqb (length m) 65536)) (ltb 3999999900 (s .clock))
-  where
-    go : (a b : Bool) → pick a 1 (pick b 3 0) ≤ 3
-    go true b = omega arith
-    go false true = omega arith
-    go false false = omega arith
+-- 4 and 5 are no refusal's
+step-not-refused : (s : State) (m : List ℕ) (line k : ℕ) → 4 ≤ k → k ≤ 5 → refusal s m line ≡ k → ⊥
+step-not-refused s m line k low high =
+    picked (not (eqb (length m) 65536)) (λ e. omega (arith, e, low))
+    (picked (withdrawn line) (λ e. omega (arith, e, high))
+    (picked (ltb 3999999900 (s .clock)) (λ e. omega (arith, e, low)) (λ e. omega (arith, e, low))))
 
 pub step-gives-four : StepGivesFour
 step-gives-four s m line bytes =
-    let most = step-refusal-most s m in
-    then (is-taken (step-replied s m line) (λ e. absurd (omega (arith, most, e)))) (each (step-accepted s m) (four-due s m line bytes))
+    then (is-taken (step-replied s m line) (λ e. absurd (step-not-refused s m line 4 (omega arith) (omega arith) e)))
+    (each (step-accepted s m line) (four-due s m line bytes))
 
 pub step-gives-five : StepGivesFive
 step-gives-five s m line bytes =
-    let most = step-refusal-most s m in
-    then (is-taken (step-replied s m line) (λ e. absurd (omega (arith, most, e)))) (each (step-accepted s m) (five-due s m line bytes))
+    then (is-taken (step-replied s m line) (λ e. absurd (step-not-refused s m line 5 (omega arith) (omega arith) e)))
+    (each (step-accepted s m line) (five-due s m line bytes))
 
 pub step-gives-zero : StepGivesZero
 step-gives-zero s m line bytes =
-    then (then (is-taken (step-replied s m line) (λ e. e)) (each (step-accepted s m) (none-due s m line bytes)))
+    then (then (is-taken (step-replied s m line) (λ e. e)) (each (step-accepted s m line) (none-due s m line bytes)))
     (λ p. (p .0, p .1 .0, p .1 .1), λ p. (p .0, (p .1, p .2)))
 
 -- two neighbours that do not rise
@@ -177,15 +191,14 @@ bad-schedule given = (go (eqb lc ll) (leb lc 64) (rising (given .cycles)) refl r
 pub good-schedule : (given : Given) → (accepted 64 (given .cycles) (given .lines) ≡ true) ↔ (BadSchedule given → ⊥)
 good-schedule given = unless (accepted 64 (given .cycles) (given .lines)) (bad-schedule given)
 
--- what follows a run that is not refused never gives 1 to 3
-goes-never :
-    (k : ℕ) (s : State) (m : List ℕ) (given : Given) (left n : ℕ) → 1 ≤ n → n ≤ 3 → goesOn k given s m left .reply ≡ n → ⊥
+-- what follows a run that is not refused never gives a number but 0, 4 and 5
+goes-never : (k : ℕ) (s : State) (m : List ℕ) (given : Given) (left n : ℕ) → Other n → goesOn k given s m left .reply ≡ n → ⊥
 unfolding goesOn
-goes-never zero s m given left n low high = λ e. omega (arith, e, low)
-goes-never (suc k) s m given left n low high =
-    both Never (not (eqb (numberOf (turnAt given s m .reply)) 0)) _ _ (none-between s m (lineIn given (s .clock)) n low high)
-    (both Never (ltb left (turnAt given s m .effect .cost)) _ _ (λ e. omega (arith, e, low))
-    (goes-never k (nextState given s m) (nextMemory given s m) given (left - turnAt given s m .effect .cost) n low high))
+goes-never zero s m given left n other = other-than refl other
+goes-never (suc k) s m given left n other =
+    both Never (not (eqb (numberOf (turnAt given s m .reply)) 0)) _ _ (none-other s m (lineIn given (s .clock)) n other)
+    (both Never (ltb left (turnAt given s m .effect .cost)) _ _ (other-than refl other)
+    (goes-never k (nextState given s m) (nextMemory given s m) given (left - turnAt given s m .effect .cost) n other))
   where
     Never : End → Type 0
     Never e = e .reply ≡ n → ⊥
@@ -198,49 +211,62 @@ run-replied s m given budget = (
   λ free. ap (λ (e : End). e .reply) (run-taken s m given budget free),
 )
 
--- so 1 to 3 are the refusal's
+-- so every other is the refusal's
 run-is-refused :
     (s : State) (m : List ℕ) (given : Given) (budget k : ℕ) →
-    1 ≤ k →
-    k ≤ 3 →
+    Other k →
     (runOf s m given budget .reply ≡ k) ↔ (runRefusal s m given budget ≡ k)
-run-is-refused s m given budget k low high =
-    is-refused (run-replied s m given budget) (λ e. omega (arith, e, low)) (goes-never (suc budget) s m given budget k low high)
+run-is-refused s m given budget k other =
+    is-refused (run-replied s m given budget) (λ e. other-than refl other (sym e)) (goes-never (suc budget) s m given budget k other)
 
 pub run-gives-one : RunGivesOne
 run-gives-one s m given budget =
-    then (run-is-refused s m given budget 1 (omega arith) (omega arith))
+    then (run-is-refused s m given budget 1 refl)
     (here (not (eqb (length m) 65536))
     (picked (not (accepted 64 (given .cycles) (given .lines))) (λ e. omega (arith, e))
-    (picked (pastLimit (s .clock) budget) (λ e. omega (arith, e)) (λ e. omega (arith, e))))
+    (picked (anyWithdrawn (given .lines)) (λ e. omega (arith, e))
+    (picked (pastLimit (s .clock) budget) (λ e. omega (arith, e)) (λ e. omega (arith, e)))))
     (not-whole m))
 
 pub run-gives-two : RunGivesTwo
 run-gives-two s m given budget =
-    then (run-is-refused s m given budget 2 (omega arith) (omega arith))
+    then (run-is-refused s m given budget 2 refl)
     (later (not (eqb (length m) 65536)) (λ e. omega (arith, e)) (whole m)
     (here (not (accepted 64 (given .cycles) (given .lines)))
-    (picked (pastLimit (s .clock) budget) (λ e. omega (arith, e)) (λ e. omega (arith, e)))
+    (picked (anyWithdrawn (given .lines)) (λ e. omega (arith, e))
+    (picked (pastLimit (s .clock) budget) (λ e. omega (arith, e)) (λ e. omega (arith, e))))
     (denied (accepted 64 (given .cycles) (given .lines)) (bad-schedule given))))
+
+pub run-gives-fifteen : RunGivesFifteen
+run-gives-fifteen s m given budget =
+    then
+    (then (run-is-refused s m given budget 15 refl)
+    (later (not (eqb (length m) 65536)) (λ e. omega (arith, e)) (whole m)
+    (later (not (accepted 64 (given .cycles) (given .lines))) (λ e. omega (arith, e))
+    (affirmed (accepted 64 (given .cycles) (given .lines)) (good-schedule given))
+    (here (anyWithdrawn (given .lines)) (picked (pastLimit (s .clock) budget) (λ e. omega (arith, e)) (λ e. omega (arith, e)))
+    (bad-lines given)))))
+    (λ p. (p .0, p .1 .0, p .1 .1), λ p. (p .0, (p .1, p .2)))
 
 pub run-gives-three : RunGivesThree
 run-gives-three s m given budget =
     then
-    (then (run-is-refused s m given budget 3 (omega arith) (omega arith))
+    (then (run-is-refused s m given budget 3 refl)
     (later (not (eqb (length m) 65536)) (λ e. omega (arith, e)) (whole m)
     (later (not (accepted 64 (given .cycles) (given .lines))) (λ e. omega (arith, e))
     (affirmed (accepted 64 (given .cycles) (given .lines)) (good-schedule given))
+    (later (anyWithdrawn (given .lines)) (λ e. omega (arith, e)) (good-lines given)
     (here (pastLimit (s .clock) budget) (λ e. omega (arith, e))
     (either (ltb 100000000 budget) (ltb 4000000000 (s .clock + budget))
     (above 100000000 budget (λ h. omega (arith, h)) (λ h. omega (arith, h)))
-    (above 4000000000 (s .clock + budget) (λ h. omega (arith, h)) (λ h. omega (arith, h))))))))
-    (λ p. (p .0, p .1 .0, p .1 .1), λ p. (p .0, (p .1, p .2)))
+    (above 4000000000 (s .clock + budget) (λ h. omega (arith, h)) (λ h. omega (arith, h)))))))))
+    (λ p. (p .0, p .1 .0, p .1 .1 .0, p .1 .1 .1), λ p. (p .0, (p .1, (p .2, p .3))))
 
 pub run-accepted : (s : State) (m : List ℕ) (given : Given) (budget : ℕ) → (runRefusal s m given budget ≡ 0) ↔ RunAccepted s m given budget
 run-accepted s m given budget = (
   λ e. let free = is-free s m given budget e in
-      record { memory = free .whole; schedule = good-schedule given .0 (free .good); spends = free .small; clock = free .near },
-  λ a. free-enough {s = s} {m = m} {given = given} {budget = budget} (record { whole = a .memory; good = good-schedule given .1 (a .schedule); small = a .spends; near = a .clock }),
+      record { memory = free .whole; schedule = good-schedule given .0 (free .good); asked = good-lines given .0 (free .asked); spends = free .small; clock = free .near },
+  λ a. free-enough {s = s} {m = m} {given = given} {budget = budget} (record { whole = a .memory; good = good-schedule given .1 (a .schedule); asked = good-lines given .1 (a .asked); small = a .spends; near = a .clock }),
 )
 
 -- the boundary where a run ended
@@ -266,17 +292,20 @@ module _ (s : State) (m : List ℕ) (given : Given) (budget : ℕ) (w : Words s)
   run-ended = (run-replied s m given budget .0, λ free. a-run-is-its-steps s m given budget w bytes free .1 .reply)
 
   -- 4 and 5 are no refusal's
-  not-refused : (k : ℕ) → 4 ≤ k → runRefusal s m given budget ≡ k → runRefusal s m given budget ≡ 0
-  not-refused k high e = let most = refusal-most s m given budget in absurd (omega (arith, most, e, high))
+  not-refused : (k : ℕ) → 4 ≤ k → k ≤ 5 → runRefusal s m given budget ≡ k → runRefusal s m given budget ≡ 0
+  not-refused k low high e =
+      absurd
+      (of-refusal (λ (n : ℕ). n ≡ k → ⊥) (λ e. omega (arith, e, low)) (λ e. omega (arith, e, low)) (λ e. omega (arith, e, low))
+      (λ e. omega (arith, e, high)) (λ e. omega (arith, e, low)) s m given budget e)
 
   gives-four : (end .reply ≡ 4) ↔ (RunAccepted s m given budget × StopsAtEnd given end)
   gives-four =
-      then (is-taken run-ended (not-refused 4 (omega arith)))
+      then (is-taken run-ended (not-refused 4 (omega arith) (omega arith)))
       (each (run-accepted s m given budget) (four-due (end .state) (end .memory) line end-bytes))
 
   gives-five : (end .reply ≡ 5) ↔ (RunAccepted s m given budget × IsReservedAtEnd given end)
   gives-five =
-      then (is-taken run-ended (not-refused 5 (omega arith)))
+      then (is-taken run-ended (not-refused 5 (omega arith) (omega arith)))
       (each (run-accepted s m given budget) (five-due (end .state) (end .memory) line end-bytes))
 
   -- 0 is given where the next step is to be done

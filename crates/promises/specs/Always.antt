@@ -2,9 +2,11 @@
 -- same name in proofs/Always.antt. That every function ends is proved with the function; here it is said of the run in numbers.
 use Prim.Native.Nat.{ℕ, _≤_}
 use mathlib.Core.Path.{_≡_}
-use mathlib.Core.List.{List}
+use mathlib.Core.Bool.{true}
+use mathlib.Core.List.{List, [], _∷_}
 use Rattle.state.specs.declared.State.{State}
 use Rattle.memory.specs.Memory.{AreBytes}
+use Rattle.opcodes.specs.Rules.{among}
 use Rattle.refusals.specs.Given.{Given}
 use Rattle.steps.specs.End.{endsHere}
 use Rattle.run.specs.Step.{stepOf}
@@ -13,9 +15,12 @@ use Rattle.run.specs.Run.{runOf}
 use Rattle.walk.specs.Words.{Words}
 use Rattle.promises.specs.Steps.{IsOfSteps}
 
--- every run has one of the replies of docs/MACHINE.md, 0 to 5
+-- every run has one of the replies of docs/MACHINE.md, 0 to 5 and 15
+abbrev pub replies : List ℕ
+replies = 0 ∷ 1 ∷ 2 ∷ 3 ∷ 4 ∷ 5 ∷ 15 ∷ []
+
 abbrev pub EveryRunReplies : Type 0
-EveryRunReplies = (s : State) (m : List ℕ) (given : Given) (budget : ℕ) → runOf s m given budget .reply ≤ 5
+EveryRunReplies = (s : State) (m : List ℕ) (given : Given) (budget : ℕ) → among (runOf s m given budget .reply) replies ≡ true
 
 -- A run takes no more steps than it may spend cycles. So it visits at most one boundary more than that: those before its steps, and the
 -- last.

@@ -13,6 +13,7 @@ use Rattle.opcodes.specs.Postbyte.{costOf, untakenOf}
 use Rattle.codes.specs.Conditions.{conditionOf}
 use Rattle.decode.specs.Decode.{cellAt, afterOpcode}
 use Rattle.machine.specs.declared.Reply.the-variants.{Done}
+use Rattle.machine.specs.Names.{noLine}
 use Rattle.requests.specs.Requests.{allowedLine}
 use Rattle.turn.specs.Turn.{turnOf}
 use Rattle.refusals.specs.Given.{Given, lineIn}
@@ -46,7 +47,7 @@ stepCost false false instruction = instruction
 
 -- the tabled cost of the step at a boundary
 abbrev pub tabledCost : State → List ℕ → ℕ → ℕ
-tabledCost s m line = stepCost (ltb (allowedLine (s .flags) line) 8) (s .standing .waiting) (tabledInstruction s m)
+tabledCost s m line = stepCost (ltb (allowedLine (s .flags) line) noLine) (s .standing .waiting) (tabledInstruction s m)
 
 -- every step that is done costs what is tabled for it
 abbrev pub AStepCostsWhatIsTabled : Type 0

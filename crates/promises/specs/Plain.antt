@@ -73,7 +73,7 @@ pub record WokenBy (vector : ℕ) (x-after : Bool) (s : State) (m : List ℕ) (l
   pub cost : turnOf s m line .effect .cost ≡ 6
 
 -- The lines and their vectors, where the machine goes by a vector and leaves X so. XIRQ, bit 0, needs X clear, and then goes first. The
--- others, bits 1 to 7, need I clear, and the lowest that is up goes first; they leave X.
+-- others, bits 1 to 5, need I clear, and the lowest that is up goes first; they leave X.
 pub record Vectors (s : State) (line : ℕ) (Goes : ℕ → Bool → Type 0) : Type 0 where
   pub xirq : s .flags .x ≡ false → line % 2 ≡ 1 → Goes 0xFFF4 true
   pub others :
@@ -84,8 +84,6 @@ pub record Vectors (s : State) (line : ℕ) (Goes : ℕ → Bool → Type 0) : T
       × (line / 2 % 8 ≡ 4 → Goes 0xFFEE (s .flags .x))
       × (line / 2 % 16 ≡ 8 → Goes 0xFFEC (s .flags .x))
       × (line / 2 % 32 ≡ 16 → Goes 0xFFEA (s .flags .x))
-      × (line / 2 % 64 ≡ 32 → Goes 0xFFE8 (s .flags .x))
-      × (line / 2 % 128 ≡ 64 → Goes 0xFFE6 (s .flags .x))
 
 abbrev pub EveryRequest : Type 0
 EveryRequest =
@@ -106,7 +104,7 @@ abbrev pub EveryMaskedRequest : Type 0
 EveryMaskedRequest =
     (s : State) (m : List ℕ) (line : ℕ) →
     (s .flags .x ≡ false → line % 2 ≡ 0) →
-    (s .flags .i ≡ false → line / 2 % 128 ≡ 0) →
+    (s .flags .i ≡ false → line / 2 % 32 ≡ 0) →
     turnOf s m line ≡ turnOf s m 0
 
 -- with no line up a machine that waits idles for a cycle

@@ -32,7 +32,7 @@ ResetGivesOne = (m : List ℕ) → (resetReply m ≡ 1) ↔ (length m ≡ 65536 
 -- No request is to be entered: XIRQ, bit 0, is down or X is set, and of each other line the bit is down or I is set.
 abbrev pub NoRequest : Flags → ℕ → Type 0
 NoRequest f line =
-    (bitOf 0 line ≡ true → f .x ≡ true) × ((k : ℕ) → 1 ≤ k → k ≤ 7 → bitOf k line ≡ true → f .i ≡ true)
+    (bitOf 0 line ≡ true → f .x ≡ true) × ((k : ℕ) → 1 ≤ k → k ≤ 5 → bitOf k line ≡ true → f .i ≡ true)
 
 -- The ten encodings that stop the machine. On page 1: 00 BGND, 01 MEM, 0A RTC, 3C wavr, 4A and 4B CALL. On page 2, after the prebyte
 -- 18: 3A REV, 3B REVW, 3C WAV, 3E STOP.
@@ -60,17 +60,27 @@ pub record IsReservedHere (s : State) (m : List ℕ) (line : ℕ) : Type 0 where
   pub opcode : oneOfTheTen m (s .pc) ≡ false
   pub postbyte : reservedAt m (cellAt m (s .pc)) (afterOpcode m (s .pc)) ≡ true
 
--- A single step: 1 where the memory is not 65,536 bytes long; 3 where it is, and the clock is over 3,999,999,900.
+-- A line byte that is refused: bit 6 or 7 is set.
+abbrev pub BadLine : ℕ → Type 0
+BadLine line = (bitOf 6 line ≡ true) ⊎ (bitOf 7 line ≡ true)
+
+-- A single step: 1 where the memory is not 65,536 bytes long; 15 where it is, and the line byte is refused; 3 where neither is so, and
+-- the clock is over 3,999,999,900.
 abbrev pub StepGivesOne : Type 0
 StepGivesOne = (s : State) (m : List ℕ) (line : ℕ) → (stepOf s m line .reply ≡ 1) ↔ (length m ≡ 65536 → ⊥)
 
+abbrev pub StepGivesFifteen : Type 0
+StepGivesFifteen = (s : State) (m : List ℕ) (line : ℕ) → (stepOf s m line .reply ≡ 15) ↔ ((length m ≡ 65536) × BadLine line)
+
 abbrev pub StepGivesThree : Type 0
 StepGivesThree =
-    (s : State) (m : List ℕ) (line : ℕ) → (stepOf s m line .reply ≡ 3) ↔ ((length m ≡ 65536) × (3999999900 < s .clock))
+    (s : State) (m : List ℕ) (line : ℕ) →
+    (stepOf s m line .reply ≡ 3) ↔ ((length m ≡ 65536) × (BadLine line → ⊥) × (3999999900 < s .clock))
 
--- neither 1 nor 3
-pub record StepAccepted (s : State) (m : List ℕ) : Type 0 where
+-- none of 1, 15 and 3
+pub record StepAccepted (s : State) (m : List ℕ) (line : ℕ) : Type 0 where
   pub memory : length m ≡ 65536
+  pub asked : BadLine line → ⊥
   pub clock : s .clock ≤ 3999999900
 
 -- 4 and 5 where they are due, and 0 where nothing else is: the step was done
@@ -78,19 +88,19 @@ abbrev pub StepGivesFour : Type 0
 StepGivesFour =
     (s : State) (m : List ℕ) (line : ℕ) →
     AreBytes m →
-    (stepOf s m line .reply ≡ 4) ↔ (StepAccepted s m × StopsHere s m line)
+    (stepOf s m line .reply ≡ 4) ↔ (StepAccepted s m line × StopsHere s m line)
 
 abbrev pub StepGivesFive : Type 0
 StepGivesFive =
     (s : State) (m : List ℕ) (line : ℕ) →
     AreBytes m →
-    (stepOf s m line .reply ≡ 5) ↔ (StepAccepted s m × IsReservedHere s m line)
+    (stepOf s m line .reply ≡ 5) ↔ (StepAccepted s m line × IsReservedHere s m line)
 
 abbrev pub StepGivesZero : Type 0
 StepGivesZero =
     (s : State) (m : List ℕ) (line : ℕ) →
     AreBytes m →
-    (stepOf s m line .reply ≡ 0) ↔ (StepAccepted s m × (StopsHere s m line → ⊥) × (IsReservedHere s m line → ⊥))
+    (stepOf s m line .reply ≡ 0) ↔ (StepAccepted s m line × (StopsHere s m line → ⊥) × (IsReservedHere s m line → ⊥))
 
 -- A schedule that is refused: it has over 64 records, or two neighbours whose cycle numbers do not strictly rise, or (as two lists) not
 -- as many line bytes as cycle numbers.
@@ -99,8 +109,12 @@ pub data BadSchedule (given : Given) : Type 0 where
   falls : (k : ℕ) → suc k < length (given .cycles) → getD (given .cycles) (suc k) 0 ≤ getD (given .cycles) k 0 → BadSchedule given
   uneven : (length (given .cycles) ≡ length (given .lines) → ⊥) → BadSchedule given
 
--- A run: 1 where the memory is not 65,536 bytes long; 2 where it is, and the schedule is refused; 3 where neither is so, and the budget
--- is over 100,000,000 or clock plus budget over 4,000,000,000.
+-- A schedule with a line byte that is refused, wherever it stands: the first, the last, one that never comes into force.
+abbrev pub BadLineIn : Given → Type 0
+BadLineIn given = (k : ℕ) × (k < length (given .lines)) × BadLine (getD (given .lines) k 0)
+
+-- A run: 1 where the memory is not 65,536 bytes long; 2 where it is, and the schedule is refused; 15 where neither is so, and a line byte
+-- of it is refused; 3 where none of these is so, and the budget is over 100,000,000 or clock plus budget over 4,000,000,000.
 abbrev pub RunGivesOne : Type 0
 RunGivesOne = (s : State) (m : List ℕ) (given : Given) (budget : ℕ) → (runOf s m given budget .reply ≡ 1) ↔ (length m ≡ 65536 → ⊥)
 
@@ -109,16 +123,25 @@ RunGivesTwo =
     (s : State) (m : List ℕ) (given : Given) (budget : ℕ) →
     (runOf s m given budget .reply ≡ 2) ↔ ((length m ≡ 65536) × BadSchedule given)
 
+abbrev pub RunGivesFifteen : Type 0
+RunGivesFifteen =
+    (s : State) (m : List ℕ) (given : Given) (budget : ℕ) →
+    (runOf s m given budget .reply ≡ 15) ↔ ((length m ≡ 65536) × (BadSchedule given → ⊥) × BadLineIn given)
+
 abbrev pub RunGivesThree : Type 0
 RunGivesThree =
     (s : State) (m : List ℕ) (given : Given) (budget : ℕ) →
     (runOf s m given budget .reply ≡ 3)
-    ↔ ((length m ≡ 65536) × (BadSchedule given → ⊥) × ((100000000 < budget) ⊎ (4000000000 < s .clock + budget)))
+    ↔ ((length m ≡ 65536)
+    × (BadSchedule given → ⊥)
+    × (BadLineIn given → ⊥)
+    × ((100000000 < budget) ⊎ (4000000000 < s .clock + budget)))
 
--- none of 1, 2 and 3
+-- none of 1, 2, 15 and 3
 pub record RunAccepted (s : State) (m : List ℕ) (given : Given) (budget : ℕ) : Type 0 where
   pub memory : length m ≡ 65536
   pub schedule : BadSchedule given → ⊥
+  pub asked : BadLineIn given → ⊥
   pub spends : budget ≤ 100000000
   pub clock : s .clock + budget ≤ 4000000000
 

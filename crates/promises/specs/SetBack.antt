@@ -15,6 +15,7 @@ use Rattle.steps.specs.End.{End, endIs, after}
 use Rattle.run.specs.Run.{runOf}
 use Rattle.walk.specs.Words.{Words}
 use Rattle.promises.specs.Steps.{IsOfSteps}
+use Rattle.promises.specs.Replies.{BadLineIn}
 
 -- a machine with its clock less by an amount, and with its clock more by it; all else is as it was
 abbrev pub earlier : ℕ → State → State
@@ -102,12 +103,13 @@ abbrev pub handed : ℕ → ℕ → Given → Given
 handed amount to given = restated amount (upTo to given)
 
 -- It will do, where it is at most 64 records and the run keeps to its other limits: whatever the clock of s is, and however long the
--- schedule, of which only this is asked, that its cycle numbers rise and that it has a line byte for each.
+-- schedule, of which only this is asked, that its cycle numbers rise, that it has a line byte for each, and that none of these is refused.
 abbrev pub WhatIsHandedWillDo : Type 0
 WhatIsHandedWillDo =
     (s : State) (m : List ℕ) (given : Given) (amount budget : ℕ) →
     rising (given .cycles) ≡ true →
     length (given .cycles) ≡ length (given .lines) →
+    (BadLineIn given → ⊥) →
     length (handed amount (s .clock + budget) given .cycles) ≤ 64 →
     length m ≡ 65536 →
     budget ≤ 100000000 →

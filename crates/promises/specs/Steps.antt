@@ -19,7 +19,7 @@ use Rattle.walk.specs.Words.{Words}
 abbrev pub AStepIsATurn : Type 0
 AStepIsATurn =
     (s : State) (m : List ℕ) (line : ℕ) →
-    refusal s m ≡ 0 →
+    refusal s m line ≡ 0 →
     stepOf s m line ≡ turnEnd s m line
 
 -- where so many steps lead, one after another, each under the line byte in force at its own boundary

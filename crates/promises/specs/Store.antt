@@ -20,7 +20,7 @@ OnlyTheStore =
     Words s →
     AreBytes m →
     length m ≡ 65536 →
-    refusal s m ≡ 0 →
+    refusal s m line ≡ 0 →
     a < 65536 →
     byteAt (stepOf s m line .memory) a
     ≡ pick (ltb (minusW a (turnOf s m line .effect .store .at)) (length (bytesStored (turnOf s m line .effect .store))))

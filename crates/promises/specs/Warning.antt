@@ -17,6 +17,7 @@ use Rattle.steps.specs.Steps.{turnAt}
 use Rattle.run.specs.Run.{runOf}
 use Rattle.promises.specs.Steps.{afterSteps, IsOfSteps, OneAfterAnother}
 use Rattle.promises.specs.Frame.{FrameAt}
+use Rattle.promises.specs.Replies.{BadLine}
 
 -- the state and the memory at boundary n of a run that starts from reset; boundary 0 is where it starts
 abbrev pub stateAt : ℕ → List ℕ → Given → State
@@ -94,6 +95,16 @@ TheWarningAcrossRuns =
     Rises T n m given →
     T + 21 ≤ room →
     Warned T n m given room e
+
+-- The runs of these two theorems are not refused, so no line byte that is ever in force in them has bit 6 or 7: that the demand is said of
+-- schedules without these bits is what `runRefusal` says, and no clause of its own.
+abbrev pub NoBadLineInForce : Type 0
+NoBadLineInForce =
+    (s : State) (m : List ℕ) (given : Given) (budget : ℕ) →
+    runRefusal s m given budget ≡ 0 →
+    (clock : ℕ) →
+    BadLine (lineIn given clock) →
+    ⊥
 
 -- a machine that has stopped stays where it is, and so comes to no later cycle
 abbrev pub NoStopBeforeTheFirst : Type 0

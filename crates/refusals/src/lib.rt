@@ -15,11 +15,14 @@ fn past_limit(clock: u32, budget: u32) -> bool
 }
 
 // What a step refuses, in this order; Done where it refuses nothing.
-pub fn step_refusal(s: State, m: &[u8]) -> Reply
-    ensures { λ r. ⌜ numberOf r ≡ refusal s (now (m .entry)) ⌝ }
+pub fn step_refusal(s: State, m: &[u8], line: u8) -> Reply
+    ensures { λ r. ⌜ numberOf r ≡ refusal s (now (m .entry)) line ⌝ }
 {
     if m.len() != Machine::MEMORY {
         return Reply::WrongMemory;
+    }
+    if schedule::withdrawn(line) {
+        return Reply::WrongLine;
     }
     if s.clock > Machine::STEP_LIMIT {
         return Reply::PastLimit;
@@ -36,6 +39,9 @@ pub fn run_refusal(s: State, m: &[u8], cycles: &[u32], lines: &[u8], budget: u32
     }
     if !schedule::accepted(cycles, lines, Machine::RECORDS) {
         return Reply::WrongSchedule;
+    }
+    if schedule::any_withdrawn(lines) {
+        return Reply::WrongLine;
     }
     if past_limit(s.clock, budget) {
         return Reply::PastLimit;

@@ -13,17 +13,17 @@ use Rattle.state.specs.State.{withPc, withFlags, withWaiting}
 use Rattle.effect.specs.declared.Effect.{Effect}
 use Rattle.effect.specs.Effect.{quiet}
 use Rattle.frames.specs.Frames.{interruptEffect}
-use Rattle.machine.specs.Names.{lineVector, entryCost, wakeCost}
+use Rattle.machine.specs.Names.{lineVector, noLine, entryCost, wakeCost}
 
--- The lowest line from 1 to 7 whose bit is set; 8 is none.
+-- The lowest line from 1 to 5 whose bit is set.
 abbrev pub lowestLine : ℕ → ℕ
 lowestLine line =
     pick (bitOf 1 line) 1
     (pick (bitOf 2 line) 2
     (pick (bitOf 3 line) 3
-    (pick (bitOf 4 line) 4 (pick (bitOf 5 line) 5 (pick (bitOf 6 line) 6 (pick (bitOf 7 line) 7 8))))))
+    (pick (bitOf 4 line) 4 (pick (bitOf 5 line) 5 noLine))))
 
--- The same by what the bits from 1 on are as a number, so that the order cannot be changed here and in the code together. Proved as
+-- The same by what the bits from 1 to 5 are as a number, where 6 is none, so that the order cannot be changed here and in the code together. Proved as
 -- `lowest-first` in proofs/Laws.antt.
 pub record LowestFirst (line : ℕ) : Type 0 where
   pub one : line / 2 % 2 ≡ 1 → lowestLine line ≡ 1
@@ -31,13 +31,11 @@ pub record LowestFirst (line : ℕ) : Type 0 where
   pub three : line / 2 % 8 ≡ 4 → lowestLine line ≡ 3
   pub four : line / 2 % 16 ≡ 8 → lowestLine line ≡ 4
   pub five : line / 2 % 32 ≡ 16 → lowestLine line ≡ 5
-  pub six : line / 2 % 64 ≡ 32 → lowestLine line ≡ 6
-  pub seven : line / 2 % 128 ≡ 64 → lowestLine line ≡ 7
-  pub none : line / 2 % 128 ≡ 0 → lowestLine line ≡ 8
+  pub none : line / 2 % 32 ≡ 0 → lowestLine line ≡ 6
 
--- The line that is to be entered: XIRQ, bit 0, needs X clear, the others I clear; the lowest goes first; 8 is none.
+-- The line that is to be entered: XIRQ, bit 0, needs X clear, the others I clear; the lowest goes first.
 unfoldable pub allowedLine : Flags → ℕ → ℕ
-allowedLine f line = pick (bitOf 0 line && not (f .x)) 0 (pick (f .i) 8 (lowestLine line))
+allowedLine f line = pick (bitOf 0 line && not (f .x)) 0 (pick (f .i) noLine (lowestLine line))
 
 -- the masks after line k is entered: I, and X too for XIRQ
 abbrev pub masked : ℕ → Flags → Flags

@@ -26,28 +26,22 @@ fn lowest_line(line: u8) -> u8
     if line / 32 % 2 == 1 {
         return 5;
     }
-    if line / 64 % 2 == 1 {
-        return 6;
-    }
-    if line / 128 % 2 == 1 {
-        return 7;
-    }
-    8
+    Machine::NO_LINE
 }
 
-// The line to be entered, or 8 where none is allowed. At most boundaries no line is up, so that is asked first.
+// The line to be entered, or NO_LINE where none is allowed. At most boundaries no line is up, so that is asked first.
 pub fn allowed_line(f: Flags, line: u8) -> u8
     ensures { λ r. ⌜ r ≡ allowedLine f line ⌝ }
 {
     if line == 0 {
-        return 8;
+        return Machine::NO_LINE;
     }
     let warned = (line % 2 == 1) & !f.x;
     if warned {
         return 0;
     }
     if f.i {
-        return 8;
+        return Machine::NO_LINE;
     }
     lowest_line(line)
 }

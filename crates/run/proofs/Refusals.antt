@@ -14,11 +14,11 @@ use Rattle.steps.specs.Steps.{goesOn}
 use Rattle.run.specs.Run.{runOf}
 
 -- a step
-pub step-refused : (s : State) (m : List ℕ) (line : ℕ) → (refusal s m ≡ 0 → ⊥) → stepOf s m line ≡ endsHere (refusal s m) s m
+pub step-refused : (s : State) (m : List ℕ) (line : ℕ) → (refusal s m line ≡ 0 → ⊥) → stepOf s m line ≡ endsHere (refusal s m line) s m
 unfolding stepOf
 step-refused s m line other = rw (ne-eqb _ _ other)
 
-pub step-taken : (s : State) (m : List ℕ) (line : ℕ) → refusal s m ≡ 0 → stepOf s m line ≡ turnEnd s m line
+pub step-taken : (s : State) (m : List ℕ) (line : ℕ) → refusal s m line ≡ 0 → stepOf s m line ≡ turnEnd s m line
 unfolding stepOf
 step-taken s m line free = rw (eq-eqb _ _ free)
 

@@ -10,4 +10,4 @@ use Rattle.steps.specs.Steps.{turnEnd}
 
 -- a step: refused it leaves all as it was
 unfoldable pub stepOf : State → List ℕ → ℕ → End
-stepOf s m line = pick (eqb (refusal s m) 0) (turnEnd s m line) (endsHere (refusal s m) s m)
+stepOf s m line = pick (eqb (refusal s m line) 0) (turnEnd s m line) (endsHere (refusal s m line) s m)

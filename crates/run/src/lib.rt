@@ -16,7 +16,7 @@ pub fn step(machine: Machine, m: &mut [u8], line: u8) -> Answer
     ensures { λ r. ⌜ Ends (stepOf (machine .state) (now (m .entry)) line) r (now (m .exit)) ⌝ }
 {
     let s = machine.state;
-    let refused = refusals::step_refusal(s, &m[..]);
+    let refused = refusals::step_refusal(s, &m[..], line);
     if refused.number() != 0 {
         return steps::answered(refused, s, 0);
     }

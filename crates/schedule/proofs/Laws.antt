@@ -3,15 +3,16 @@ use Prim.Native.Nat.{ℕ, zero, suc, _+_, _-_, _<_, _≤_}
 use native.Mathlib.Omega.{arith}
 use native.Mathlib.Numerals.{add-one}
 use mathlib.Core.Path.{_≡_, refl, sym, _∙_, ap}
-use mathlib.Core.Bool.{Bool, true, false, _&&_}
+use mathlib.Core.Bool.{Bool, true, false, _&&_, _||_, true≢false}
 use mathlib.Core.List.{List, [], _∷_}
-use lib.Dec.{leb, ltb, eqb}
+use lib.Dec.{T, leb, ltb, eqb}
 use lib.ListN.{length, getD, drop, drop-of-length-le, List·getD-eq-default}
 use lib.Seq.{drop-cons}
 use borrow.Author.Tests.{lt-ltb, le-ltb, ltb-true, leb-true, leb-false, le-leb, lt-leb, eqb-true}
-use Rattle.word.specs.Word.{pick}
+use Rattle.word.specs.Word.{pick, bitOf}
+use Rattle.word.proofs.Table.{everyBelow, at-number, same, same-is}
 use Rattle.schedule.specs.declared.Watch.{Watch}
-use Rattle.schedule.specs.Schedule.{risingAfter, rising, accepted, inForce, passed, lineBefore, comingAt, watchAt, Watched}
+use Rattle.schedule.specs.Schedule.{risingAfter, rising, accepted, withdrawn, WithdrawnFrom64, anyWithdrawn, inForce, passed, lineBefore, comingAt, watchAt, Watched}
 
 -- the place is in the schedule
 pub passed-inside : (cs : List ℕ) (clock : ℕ) → passed cs clock ≤ length cs
@@ -208,6 +209,48 @@ pub rising-some : (cs : List ℕ) → (length cs ≡ 0 → ⊥) → risingAfter 
 unfolding rising
 rising-some [] some = absurd (some refl)
 rising-some (c ∷ cs) some = refl
+
+-- a walk over the line bytes: the next one is withdrawn, or the rest tells, or there is none
+pub withdrawn-here : (ls : List ℕ) (i : ℕ) → i < length ls → withdrawn (getD ls i 0) ≡ true → anyWithdrawn (drop i ls) ≡ true
+unfolding anyWithdrawn
+withdrawn-here ls i inside is = rw (drop-cons ls i 0 inside, is)
+
+pub withdrawn-on : (ls : List ℕ) (i : ℕ) → i < length ls → withdrawn (getD ls i 0) ≡ false → anyWithdrawn (drop i ls) ≡ anyWithdrawn (drop (i + 1) ls)
+unfolding anyWithdrawn
+withdrawn-on ls i inside is = rw (drop-cons ls i 0 inside, is, add-one i)
+
+pub withdrawn-none : (ls : List ℕ) (i : ℕ) → length ls ≤ i → anyWithdrawn (drop i ls) ≡ false
+unfolding anyWithdrawn
+withdrawn-none ls i past = rw (drop-of-length-le ls {i = i} past)
+
+-- a disjunction that does not hold
+pub or-left : (a b : Bool) → a || b ≡ false → a ≡ false
+or-left true b e = e
+or-left false b e = refl
+
+pub or-right : (a b : Bool) → a || b ≡ false → b ≡ false
+or-right true b e = absurd (true≢false e)
+or-right false b e = e
+
+-- where none of the records is withdrawn, nor the line byte before them, the one in force never is
+pub in-force-stays :
+    (before : ℕ) (cs ls : List ℕ) (clock : ℕ) →
+    withdrawn before ≡ false →
+    anyWithdrawn ls ≡ false →
+    withdrawn (inForce before cs ls clock) ≡ false
+unfolding inForce anyWithdrawn
+in-force-stays before [] ls clock old none = old
+in-force-stays before (c ∷ cs) [] clock old none = old
+in-force-stays before (c ∷ cs) (l ∷ ls) clock old none =
+    in-force-stays (pick (leb c clock) l before) cs ls clock (go (leb c clock)) (or-right (withdrawn l) _ none)
+  where
+    go : (b : Bool) → withdrawn (pick b l before) ≡ false
+    go true = or-left (withdrawn l) _ none
+    go false = old
+
+pub withdrawn-from-64 : WithdrawnFrom64
+withdrawn-from-64 line byte =
+    same-is _ _ (at-number (λ (l : ℕ). same (withdrawn l) (leb 64 l)) 256 tt line byte)
 
 -- a watch stays the same until its next record is due, and its place is not behind
 pub watch-still :

@@ -1,11 +1,11 @@
 -- The schedule (docs/MACHINE.md, "Requests" and reply 2): records, each a cycle number and a line byte, as two lists of the same length.
-use Prim.Native.Nat.{ℕ, zero, suc, _≤_}
+use Prim.Native.Nat.{ℕ, zero, suc, _<_, _≤_}
 use mathlib.Core.Path.{_≡_}
-use mathlib.Core.Bool.{Bool, true, _&&_}
+use mathlib.Core.Bool.{Bool, true, false, _&&_, _||_}
 use mathlib.Core.List.{List, [], _∷_}
 use lib.Dec.{leb, ltb, eqb}
 use lib.ListN.{length, getD}
-use Rattle.word.specs.Word.{pick}
+use Rattle.word.specs.Word.{pick, bitOf}
 use Rattle.schedule.specs.declared.Watch.{Watch}
 
 -- the cycle numbers strictly rise, after one that is given
@@ -21,6 +21,20 @@ rising (c ∷ cs) = risingAfter c cs
 -- a list of at most so many records, whose cycle numbers strictly rise
 abbrev pub accepted : ℕ → List ℕ → List ℕ → Bool
 accepted most cycles lines = (eqb (length cycles) (length lines) && leb (length cycles) most) && rising cycles
+
+-- a line byte that has bit 6 or 7: their two requests are withdrawn (reply 15)
+abbrev pub withdrawn : ℕ → Bool
+withdrawn line = bitOf 6 line || bitOf 7 line
+
+-- The same in plain numbers, so that the bits cannot be changed here and in the code together: of the bytes, those from 64 on. Proved as
+-- `withdrawn-from-64` in proofs/Laws.antt.
+abbrev pub WithdrawnFrom64 : Type 0
+WithdrawnFrom64 = (line : ℕ) → line < 256 → withdrawn line ≡ leb 64 line
+
+-- a list of line bytes of which one has
+unfoldable pub anyWithdrawn : List ℕ → Bool
+anyWithdrawn [] = false
+anyWithdrawn (l ∷ ls) = withdrawn l || anyWithdrawn ls
 
 -- the line byte in force at a clock value, where `before` is the one before these records: the last record's at or before it
 unfoldable pub inForce : ℕ → List ℕ → List ℕ → ℕ → ℕ

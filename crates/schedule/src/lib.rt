@@ -1,7 +1,7 @@
 // The schedule: whether it is accepted, and the line byte in force, found by moving through the records once.
 ghost use mathlib.Core.Path.{_≡_};
 ghost use Prim.Native.Nat.{_≤_};
-ghost use Rattle.schedule.specs.Schedule.{rising as risingOf, accepted as acceptedOf, passed as passedOf, lineBefore, comingAt, watchIs, watchAt, Watched};
+ghost use Rattle.schedule.specs.Schedule.{rising as risingOf, accepted as acceptedOf, withdrawn as withdrawnOf, anyWithdrawn, passed as passedOf, lineBefore, comingAt, watchIs, watchAt, Watched};
 
 // Where a run stands in its schedule: how many records are at or before its clock, the line byte in force, and the clock value at which
 // the next record comes into force. Until then a step finds its line byte here by one comparison.
@@ -35,6 +35,27 @@ pub fn accepted(cycles: &[u32], lines: &[u8], most: usize) -> bool
 {
     let sized = (cycles.len() == lines.len()) & (cycles.len() <= most);
     sized & rising(cycles)
+}
+
+// Whether a line byte has bit 6 or 7, whose requests are withdrawn.
+pub fn withdrawn(line: u8) -> bool
+    ensures { λ r. ⌜ r ≡ withdrawnOf line ⌝ }
+{
+    (line / 64 % 2 == 1) | (line / 128 % 2 == 1)
+}
+
+// Whether one of the line bytes has, wherever it stands: also one that never comes into force.
+pub fn any_withdrawn(lines: &[u8]) -> bool
+    ensures { λ r. ⌜ r ≡ anyWithdrawn (now (lines .entry)) ⌝ }
+{
+    let mut i = 0;
+    while i < lines.len() {
+        if withdrawn(lines[i]) {
+            return true;
+        }
+        i += 1;
+    }
+    false
 }
 
 // How many records are at or before a clock value, where `from` of them are known to be.

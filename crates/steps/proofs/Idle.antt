@@ -13,7 +13,7 @@ use Rattle.state.specs.State.{withClock}
 use Rattle.memory.specs.Memory.{committed}
 use Rattle.effect.specs.Effect.{quiet, acted}
 use Rattle.machine.specs.declared.Reply.the-variants.{Done}
-use Rattle.machine.specs.Names.{numberOf, idleCost, clockLimit}
+use Rattle.machine.specs.Names.{numberOf, noLine, idleCost, clockLimit}
 use Rattle.schedule.specs.declared.Watch.{Watch}
 use Rattle.schedule.specs.Schedule.{rising, passed, comingAt, watchAt}
 use Rattle.schedule.proofs.Laws.{coming-later, line-still}
@@ -30,7 +30,7 @@ use Rattle.steps.proofs.Loop.{run-steps, after-twice, after-none, Going
 pub idle-turn :
     (s : State) (m : List ℕ) (line : ℕ) →
     s .standing .waiting ≡ true →
-    8 ≤ allowedLine (s .flags) line →
+    noLine ≤ allowedLine (s .flags) line →
     turnOf s m line ≡ turnIs Done (quiet s idleCost)
 unfolding turnOf
 idle-turn s m line waits none = rw (le-ltb _ _ none, waits)
@@ -40,7 +40,7 @@ idle-step :
     (k : ℕ) (given : Given) (s : State) (m : List ℕ) (left : ℕ) →
     1 ≤ left →
     s .standing .waiting ≡ true →
-    8 ≤ allowedLine (s .flags) (lineIn given (s .clock)) →
+    noLine ≤ allowedLine (s .flags) (lineIn given (s .clock)) →
     goesOn (suc k) given s m left ≡ after 1 (goesOn k given (withClock s (s .clock + 1)) m (left - 1))
 idle-step k given s m left some waits none =
     let is = idle-turn s m (lineIn given (s .clock)) waits none in
@@ -64,7 +64,7 @@ idles-at-once (suc n) (suc k) given s m left inside fits waits none =
     ∙ after-twice 1 n _
     ∙ (λ i. after (one i) (goesOn (fewer i) given (withClock s (clock i)) m (spent i)))
   where
-    later : (clock : ℕ) → s .clock + 1 ≤ clock → clock < s .clock + 1 + n → 8 ≤ allowedLine (s .flags) (lineIn given clock)
+    later : (clock : ℕ) → s .clock + 1 ≤ clock → clock < s .clock + 1 + n → noLine ≤ allowedLine (s .flags) (lineIn given clock)
     later clock low high = none clock (omega (arith, low)) (omega (arith, high))
 
     one : 1 + n ≡ suc n
@@ -82,7 +82,7 @@ idles-at-once (suc n) (suc k) given s m left inside fits waits none =
 -- what is known where there are idle cycles to take
 pub record Idles (s : State) (line due left more n : ℕ) : Type 0 where
   pub waits : s .standing .waiting ≡ true
-  pub none : 8 ≤ allowedLine (s .flags) line
+  pub none : noLine ≤ allowedLine (s .flags) line
   pub before : s .clock + n ≤ due
   pub fits : n ≤ left
   pub inside : n ≤ more
@@ -93,17 +93,17 @@ pub idles :
     n ≡ idleCycles s line due left more →
     0 < n →
     Idles s line due left more n
-idles s line due left more n later is some = go (s .standing .waiting) refl (leb 8 (allowedLine (s .flags) line)) refl
+idles s line due left more n later is some = go (s .standing .waiting) refl (leb noLine (allowedLine (s .flags) line)) refl
   where
     go :
         (b : Bool) → s .standing .waiting ≡ b →
-        (free : Bool) → leb 8 (allowedLine (s .flags) line) ≡ free →
+        (free : Bool) → leb noLine (allowedLine (s .flags) line) ≡ free →
         Idles s line due left more n
     go true waits true none =
         let least : n ≡ min (due - s .clock) (min left more) = is ∙ rw (waits, none) in
         record {
           waits = waits;
-          none = leb-true 8 _ none;
+          none = leb-true noLine _ none;
           before = omega (arith, least, later);
           fits = omega (arith, least);
           inside = omega (arith, least);
@@ -141,7 +141,7 @@ idled {given} {m₀} {s₀} {budget} {boundaries} {m} {s} {w} {more} g up same l
     known : Idles s (w′ .line) (w′ .due) (s₀ .clock + budget - s .clock) more n
     known = idles s (w′ .line) (w′ .due) _ more n (omega (arith, later)) is some
 
-    still : (clock : ℕ) → s .clock ≤ clock → clock < s .clock + n → 8 ≤ allowedLine (s .flags) (lineIn given clock)
+    still : (clock : ℕ) → s .clock ≤ clock → clock < s .clock + n → noLine ≤ allowedLine (s .flags) (lineIn given clock)
     still clock low high =
         let due : w′ .due ≡ comingAt (given .cycles) (passed (given .cycles) (s .clock)) = ap (λ (w : Watch). w .due) watch in
         let line = line-still (given .cycles) (given .lines) (s .clock) clock up same low (omega (arith, high, known .before, due)) in

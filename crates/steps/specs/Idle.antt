@@ -8,6 +8,7 @@ use lib.Dec.{leb}
 use Rattle.word.specs.Word.{pick}
 use Rattle.state.specs.declared.State.{State}
 use Rattle.state.specs.State.{withClock}
+use Rattle.machine.specs.Names.{noLine}
 use Rattle.requests.specs.Requests.{allowedLine}
 use Rattle.refusals.specs.Given.{Given, lineIn}
 use Rattle.steps.specs.End.{after}
@@ -17,7 +18,7 @@ use Rattle.steps.specs.Steps.{goesOn}
 -- none where the machine does not wait, or the line byte ends its wait
 abbrev pub idleCycles : State → ℕ → ℕ → ℕ → ℕ → ℕ
 idleCycles s line due left more =
-    pick (s .standing .waiting) (pick (leb 8 (allowedLine (s .flags) line)) (min (due - s .clock) (min left more)) 0) 0
+    pick (s .standing .waiting) (pick (leb noLine (allowedLine (s .flags) line)) (min (due - s .clock) (min left more)) 0) 0
 
 -- A machine that waits, and that no line byte of the next n cycles lets go on, comes in n steps to the same state with a clock that is n
 -- later, and n cycles are spent. Proved under the same name in proofs/Idle.antt, by induction on n.
@@ -27,5 +28,5 @@ IdlesAtOnce =
     n ≤ boundaries →
     n ≤ left →
     s .standing .waiting ≡ true →
-    ((clock : ℕ) → s .clock ≤ clock → clock < s .clock + n → 8 ≤ allowedLine (s .flags) (lineIn given clock)) →
+    ((clock : ℕ) → s .clock ≤ clock → clock < s .clock + n → noLine ≤ allowedLine (s .flags) (lineIn given clock)) →
     goesOn boundaries given s m left ≡ after n (goesOn (boundaries - n) given (withClock s (s .clock + n)) m (left - n))

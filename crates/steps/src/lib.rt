@@ -52,7 +52,7 @@ fn idle_cycles(s: State, w: Watch, left: u32, more: u32) -> u32
     let standing = s.standing;
     if standing.waiting {
         let f = s.flags;
-        if requests::allowed_line(f, w.line) < 8 {
+        if requests::allowed_line(f, w.line) < Machine::NO_LINE {
             return 0;
         }
         return least(w.due - s.clock, least(left, more));

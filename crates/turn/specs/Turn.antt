@@ -33,7 +33,7 @@ use Rattle.moves.specs.Bits.{bitted, bitsEffect}
 use Rattle.machine.specs.declared.Reply.{Reply}
 use Rattle.machine.specs.declared.Reply.the-variants.{Done, Stopped, ReservedPostbyte}
 use Rattle.turn.specs.declared.Turn.{Turn}
-use Rattle.machine.specs.Names.{numberOf, swiVector, trapVector, idleCost}
+use Rattle.machine.specs.Names.{numberOf, swiVector, trapVector, noLine, idleCost}
 use Rattle.requests.specs.Requests.{allowedLine, entryEffect, wakeEffect}
 
 -- what changes the flow and has no operand in memory, with SWI (002, p. 6-196) and TRAP (6-205), which are entries by a vector and set I
@@ -109,5 +109,5 @@ RepliesAsFetched = (s : State) (m : List ℕ) (f : Fetched) → numberOf (instru
 unfoldable pub turnOf : State → List ℕ → ℕ → Turn
 turnOf s m line =
     let k = allowedLine (s .flags) line in
-    pick (ltb k 8) (pick (s .standing .waiting) (turnIs Done (wakeEffect s m k)) (turnIs Done (entryEffect s m k)))
+    pick (ltb k noLine) (pick (s .standing .waiting) (turnIs Done (wakeEffect s m k)) (turnIs Done (entryEffect s m k)))
     (pick (s .standing .waiting) (turnIs Done (quiet s idleCost)) (instructed s m (fetchedOf m (s .pc))))

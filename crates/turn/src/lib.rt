@@ -216,7 +216,7 @@ pub fn turn_at(map: &[u32; 512], grid: &[[u8; 8]; 18], s: State, m: &[u8], line:
     let f = s.flags;
     let standing = s.standing;
     let k = requests::allowed_line(f, line);
-    if k < 8 {
+    if k < Machine::NO_LINE {
         if standing.waiting {
             return done(requests::wake(s, m, k));
         }

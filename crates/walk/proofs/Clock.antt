@@ -13,6 +13,7 @@ use Rattle.decode.specs.Decode.{fetchedOf}
 use Rattle.effect.specs.declared.Effect.{Effect}
 use Rattle.frames.specs.Frames.{interruptEffect, waitEffect}
 use Rattle.machine.specs.declared.Reply.the-variants.{Done}
+use Rattle.machine.specs.Names.{noLine}
 use Rattle.turn.specs.declared.Turn.{Turn}
 use Rattle.requests.specs.Requests.{allowedLine, entryEffect, wakeEffect}
 use Rattle.turn.specs.Turn.{turnIs, instructed, turnOf}
@@ -63,7 +64,7 @@ at-pc s m c (Instruction d) = record { same = ap (turnIs Done) (no-instruction-r
 of-every-turn : (s : State) (m : List ℕ) (line c : ℕ) → Alike c (turnOf s m line) (turnOf (withClock s c) m line)
 unfolding turnOf wakeEffect entryEffect interruptEffect
 of-every-turn s m line c =
-    either (ltb (allowedLine (s .flags) line) 8) (either (s .standing .waiting) (record { same = refl }) (record { same = refl }))
+    either (ltb (allowedLine (s .flags) line) noLine) (either (s .standing .waiting) (record { same = refl }) (record { same = refl }))
     (either (s .standing .waiting) (record { same = refl }) (at-pc s m c (fetchedOf m (s .pc))))
 
 pub no-turn-reads-the-clock : NoTurnReadsTheClock

@@ -14,7 +14,7 @@ use Rattle.decode.specs.declared.Fetched.the-variants.{Stop, Reserved, Instruct
 use Rattle.decode.specs.Decode.{onPageTwo, cellAt, afterOpcode, reservedAt, fetchedOf}
 use Rattle.effect.specs.Effect.{quiet}
 use Rattle.machine.specs.declared.Reply.the-variants.{Done}
-use Rattle.machine.specs.Names.{numberOf, idleCost}
+use Rattle.machine.specs.Names.{numberOf, noLine, idleCost}
 use Rattle.turn.specs.declared.Turn.{Turn}
 use Rattle.requests.specs.Requests.{allowedLine, entryEffect, wakeEffect}
 use Rattle.turn.specs.Turn.{turnIs, instructed, turnOf}
@@ -42,20 +42,20 @@ at-pc s m line none awake =
 
 pub every-turn-goes : EveryTurnGoes
 unfolding turnOf
-every-turn-goes s m line = go (ltb k 8) (s .standing .waiting) refl refl
+every-turn-goes s m line = go (ltb k noLine) (s .standing .waiting) refl refl
   where
     k : ℕ
     k = allowedLine (s .flags) line
 
     go :
-        (b w : Bool) → ltb k 8 ≡ b → s .standing .waiting ≡ w →
+        (b w : Bool) → ltb k noLine ≡ b → s .standing .waiting ≡ w →
         Ways s m line
         (pick b (pick w (turnIs Done (wakeEffect s m k)) (turnIs Done (entryEffect s m k)))
         (pick w (turnIs Done (quiet s idleCost)) (instructed s m (fetchedOf m (s .pc)))))
-    go true true up e = wakes (ltb-true k 8 up) e
-    go true false up e = enters (ltb-true k 8 up) e
-    go false true none e = idles (ltb-false k 8 none) e
-    go false false none e = at-pc s m line (ltb-false k 8 none) e
+    go true true up e = wakes (ltb-true k noLine up) e
+    go true false up e = enters (ltb-true k noLine up) e
+    go false true none e = idles (ltb-false k noLine none) e
+    go false false none e = at-pc s m line (ltb-false k noLine none) e
 
 -- an instruction begins with what fits, where the registers and the memory do
 pub fits-at-pc : {s : State} {m : List ℕ} → Words s → Below 256 m → Fits (atPc s m)

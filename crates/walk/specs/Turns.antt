@@ -13,7 +13,7 @@ use Rattle.effect.specs.declared.Effect.{Effect}
 use Rattle.effect.specs.Effect.{quiet}
 use Rattle.machine.specs.declared.Reply.the-variants.{Done, Stopped, ReservedPostbyte}
 use Rattle.turn.specs.declared.Turn.{Turn}
-use Rattle.machine.specs.Names.{idleCost}
+use Rattle.machine.specs.Names.{noLine, idleCost}
 use Rattle.requests.specs.Requests.{allowedLine, entryEffect, wakeEffect}
 use Rattle.turn.specs.Turn.{turnIs, turnOf}
 use Rattle.walk.specs.Walk.{Before, before, Gives}
@@ -33,10 +33,10 @@ atPc s m = before (withPc s (instructionAt m (s .pc) .next)) m (instructionAt m 
 
 -- a line is to be entered, or none is
 abbrev pub AnyUp : State → ℕ → Type 0
-AnyUp s line = allowedLine (s .flags) line < 8
+AnyUp s line = allowedLine (s .flags) line < noLine
 
 abbrev pub NoneUp : State → ℕ → Type 0
-NoneUp s line = 8 ≤ allowedLine (s .flags) line
+NoneUp s line = noLine ≤ allowedLine (s .flags) line
 
 -- Where a line is to be entered, a machine that waits ends its wait, and one that does not enters. Where none is, a machine that waits
 -- idles; and else what stands at PC stops it, has a reserved postbyte, or is an instruction, which leaves one of its effects.

@@ -1,7 +1,7 @@
 use mathlib.Core.Path.{_≡_}
 use borrow.Author.Needs.{needs}
 use borrow.Author.Tests.{eq-eqb, ne-eqb}
-use Rattle.schedule.specs.Schedule.{accepted}
+use Rattle.schedule.specs.Schedule.{accepted, anyWithdrawn}
 use Rattle.machine.specs.Names.{recordLimit}
 use Rattle.refusals.proofs.run_refusal.Statement.{statement}
 use Rattle.refusals.proofs.run_refusal.Tie as tie
@@ -9,7 +9,7 @@ use Rattle.refusals.proofs.run_refusal.Tie as tie
 wrong-memory : tie.Need-returns
 wrong-memory c = rw (ne-eqb _ _ (c .if1 .taken))
 
--- what the call says is whether the schedule is accepted
+-- what the first call says is whether the schedule is accepted, and what the second says whether a line byte of it is withdrawn
 schedule-is :
     (asked : tie.After-accepted) →
     let lent = asked .before .before .before .before .before .args in
@@ -21,30 +21,57 @@ wrong-schedule c =
     let asked = c .before in
     rw (eq-eqb _ _ (asked .before .if1 .left), ← (schedule-is asked), c .if2 .taken)
 
-past-limit : tie.Need-returns-3
-past-limit c =
-    let limits = c .before in
-    let asked = limits .before .before in
+wrong-line : tie.Need-returns-3
+wrong-line c =
+    let lines = c .before in
+    let asked = lines .before .before in
     rw (
       eq-eqb _ _ (asked .before .if1 .left),
       ← (schedule-is asked),
-      limits .before .if2 .left,
-      ← (limits .past-limit .ensures),
+      lines .before .if2 .left,
+      ← (lines .any-withdrawn .ensures),
       c .if3 .taken,
     )
 
-none : tie.Need-returns-4
-none c =
+past-limit : tie.Need-returns-4
+past-limit c =
     let limits = c .before in
-    let asked = limits .before .before in
+    let lines = limits .before .before in
+    let asked = lines .before .before in
     rw (
       eq-eqb _ _ (asked .before .if1 .left),
       ← (schedule-is asked),
-      limits .before .if2 .left,
+      lines .before .if2 .left,
+      ← (lines .any-withdrawn .ensures),
+      limits .before .if3 .left,
       ← (limits .past-limit .ensures),
-      c .if3 .left,
+      c .if4 .taken,
+    )
+
+none : tie.Need-returns-5
+none c =
+    let limits = c .before in
+    let lines = limits .before .before in
+    let asked = lines .before .before in
+    rw (
+      eq-eqb _ _ (asked .before .if1 .left),
+      ← (schedule-is asked),
+      lines .before .if2 .left,
+      ← (lines .any-withdrawn .ensures),
+      limits .before .if3 .left,
+      ← (limits .past-limit .ensures),
+      c .if4 .left,
     )
 
 pub run-refusal-spec : {M : Type 1} → statement M
 run-refusal-spec =
-    tie.close (tie.spec wrong-memory (λ c κs. search needs) wrong-schedule (λ c κs. search needs) past-limit none)
+    tie.close
+    (tie.spec
+    wrong-memory
+    (λ c κs. search needs)
+    wrong-schedule
+    (λ c κs. search needs)
+    wrong-line
+    (λ c κs. search needs)
+    past-limit
+    none)

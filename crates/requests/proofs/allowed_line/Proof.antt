@@ -5,17 +5,18 @@ use mathlib.Core.Bool.{Bool, true, false, _&&_, not}
 use lib.Dec.{eqb}
 use Rattle.word.specs.Word.{pick}
 use Rattle.state.specs.declared.Flags.{Flags}
+use Rattle.machine.specs.Names.{noLine}
 use Rattle.requests.specs.Requests.{lowestLine, allowedLine}
 use borrow.Author.Needs.{needs}
 use Rattle.requests.proofs.allowed_line.Statement.{statement}
 use Rattle.requests.proofs.allowed_line.Tie as tie
 
 -- where no line is up none is allowed, whatever the masks
-none-up : (f : Flags) → allowedLine f 0 ≡ 8
+none-up : (f : Flags) → allowedLine f 0 ≡ noLine
 unfolding allowedLine
 none-up f = go (f .i)
   where
-    go : (i : Bool) → pick i 8 (lowestLine 0) ≡ 8
+    go : (i : Bool) → pick i noLine (lowestLine 0) ≡ noLine
     go true = refl
     go false = refl
 

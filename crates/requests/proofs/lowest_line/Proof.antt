@@ -35,45 +35,9 @@ fifth c =
       eq-eqb _ _ (c .if5 .taken),
     )
 
-sixth : tie.Need-returns-6
-sixth c =
-    let c5 = c .before in
-    let c4 = c5 .before in
-    let c3 = c4 .before in
-    let c2 = c3 .before in
-    let c1 = c2 .before in
-    rw (
-      ne-eqb _ _ (c1 .if1 .left),
-      ne-eqb _ _ (c2 .if2 .left),
-      ne-eqb _ _ (c3 .if3 .left),
-      ne-eqb _ _ (c4 .if4 .left),
-      ne-eqb _ _ (c5 .if5 .left),
-      eq-eqb _ _ (c .if6 .taken),
-    )
-
-seventh : tie.Need-returns-7
-seventh c =
-    let c6 = c .before in
-    let c5 = c6 .before in
-    let c4 = c5 .before in
-    let c3 = c4 .before in
-    let c2 = c3 .before in
-    let c1 = c2 .before in
-    rw (
-      ne-eqb _ _ (c1 .if1 .left),
-      ne-eqb _ _ (c2 .if2 .left),
-      ne-eqb _ _ (c3 .if3 .left),
-      ne-eqb _ _ (c4 .if4 .left),
-      ne-eqb _ _ (c5 .if5 .left),
-      ne-eqb _ _ (c6 .if6 .left),
-      eq-eqb _ _ (c .if7 .taken),
-    )
-
-none : tie.Need-returns-8
+none : tie.Need-returns-6
 none c =
-    let c6 = c .before in
-    let c5 = c6 .before in
-    let c4 = c5 .before in
+    let c4 = c .before in
     let c3 = c4 .before in
     let c2 = c3 .before in
     let c1 = c2 .before in
@@ -82,10 +46,8 @@ none c =
       ne-eqb _ _ (c2 .if2 .left),
       ne-eqb _ _ (c3 .if3 .left),
       ne-eqb _ _ (c4 .if4 .left),
-      ne-eqb _ _ (c5 .if5 .left),
-      ne-eqb _ _ (c6 .if6 .left),
-      ne-eqb _ _ (c .if7 .left),
+      ne-eqb _ _ (c .if5 .left),
     )
 
 pub lowest-line-spec : {M : Type 1} → statement M
-lowest-line-spec = tie.close (tie.spec first second third fourth fifth sixth seventh none)
+lowest-line-spec = tie.close (tie.spec first second third fourth fifth none)

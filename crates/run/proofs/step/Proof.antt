@@ -26,13 +26,16 @@ refused c =
 none :
     (free : tie.Else1) →
     let lent = free .before .before .before .before .before .before .args in
-    refusal (lent .machine .state) (lent .m .now) ≡ 0
+    refusal (lent .machine .state) (lent .m .now) (lent .line) ≡ 0
 none free =
     let asked = free .before in
     sym (asked .before .step-refusal .ensures) ∙ sym (asked .number .ensures) ∙ free .if1 .left
 
-known : (free : tie.Else1) → let lent = free .before .before .before .before .before .before .args in StepFree (lent .machine .state) (lent .m .now)
-known free = is-step-free _ _ (none free)
+known :
+    (free : tie.Else1) →
+    let lent = free .before .before .before .before .before .before .args in
+    StepFree (lent .machine .state) (lent .m .now) (lent .line)
+known free = is-step-free _ _ _ (none free)
 
 go-requires : tie.Need-go-requires
 unfolding rising risingAfter

@@ -1,12 +1,13 @@
 use borrow.Author.Needs.{needs}
 use borrow.Author.Tests.{le-leb, lt-leb}
+use Rattle.machine.specs.Names.{noLine}
 use Rattle.steps.proofs.idle_cycles.Statement.{statement}
 use Rattle.steps.proofs.idle_cycles.Tie as tie
 
 woken : tie.Need-returns
 woken c =
     let asked = c .before in
-    rw (asked .before .before .if1 .taken, ← (asked .allowed-line .ensures), lt-leb 8 _ (c .if2 .taken))
+    rw (asked .before .before .if1 .taken, ← (asked .allowed-line .ensures), lt-leb noLine _ (c .if2 .taken))
 
 waits : tie.Need-returns-2
 waits c =
@@ -18,7 +19,7 @@ waits c =
       few .least .ensures,
       asked .before .before .if1 .taken,
       ← (asked .allowed-line .ensures),
-      le-leb 8 _ (none .if2 .left),
+      le-leb noLine _ (none .if2 .left),
     )
 
 goes-on : tie.Need-returns-3
