@@ -31,11 +31,11 @@ Has ls = (k : ℕ) × (k < length ls) × BadLine (getD ls k 0)
 found : (ls : List ℕ) → anyWithdrawn ls ≡ true → Has ls
 unfolding anyWithdrawn
 found [] e = absurd (true≢false (sym e))
-found (l ∷ ls) e = go (withdrawn l) refl e
+found (l ∷ ls) e = go (withdrawn l) refl e (found ls)
   where
-    go : (b : Bool) → withdrawn l ≡ b → b || anyWithdrawn ls ≡ true → Has (l ∷ ls)
-    go true is f = (0, omega arith, bad-line l .0 is)
-    go false is f = let at = found ls f in (suc (at .0), omega (arith, at .1), at .2)
+    go : (b : Bool) → withdrawn l ≡ b → b || anyWithdrawn ls ≡ true → (anyWithdrawn ls ≡ true → Has ls) → Has (l ∷ ls)
+    go true is f rest = (0, omega arith, bad-line l .0 is)
+    go false is f rest = let at = rest f in (suc (at .0), omega (arith, at .1), at .2)
 
 also : (b : Bool) {r : Bool} → r ≡ true → b || r ≡ true
 also true e = refl

@@ -9,7 +9,7 @@ use borrow.Author.Tests.{eq-eqb, le-ltb}
 use Rattle.word.specs.Word.{pick}
 use Rattle.word.proofs.Table.{and-left, and-right}
 use Rattle.memory.specs.Memory.{lowestBytes, storeAll}
-use Rattle.schedule.specs.Schedule.{risingAfter, rising, inForce}
+use Rattle.schedule.specs.Schedule.{risingAfter, rising, anyWithdrawn, inForce}
 use Rattle.opcodes.specs.Grid.{grid, gridAt, families, familyOf}
 use Rattle.opcodes.specs.Map.{cellOf}
 use Rattle.opcodes.specs.Postbyte.{formOf, extensionOf, reservedOf, lengthOf, costOf, untakenOf}
@@ -62,14 +62,14 @@ by-turns : (rows : (State → List ℕ → End) → List BenchRow) → Hold (row
 by-turns rows h = subst Hold (λ i. rows (λ s bytes. sym (step-is-turned s bytes) i)) h
 
 pub bench-rows : BenchRows
-unfolding benchTable lowestBytes storeAll rising inForce goesOn runOf turnOf allowedLine instructed fetchedOf cellOf grid gridAt families
+unfolding benchTable lowestBytes storeAll rising anyWithdrawn inForce goesOn runOf turnOf allowedLine instructed fetchedOf cellOf grid gridAt families
     familyOf formOf extensionOf reservedOf lengthOf costOf untakenOf steppedPlace constantPlace indexedPlace operandPlace executed
     withOperand controlled accumulated changed withAEffect inAEffect firstRegisters secondRegisters registered registersEffect
     multiplied productEffect shortEffect interruptEffect addressed addressEffect
 bench-rows = by-turns benchTable refl
 
 pub more-rows : MoreRows
-unfolding longBranches lowestBytes storeAll rising risingAfter inForce goesOn stepOf runOf turnOf allowedLine instructed fetchedOf cellOf
+unfolding longBranches lowestBytes storeAll rising risingAfter anyWithdrawn inForce goesOn stepOf runOf turnOf allowedLine instructed fetchedOf cellOf
     grid gridAt families familyOf formOf extensionOf reservedOf lengthOf costOf untakenOf indexedPlace operandPlace executed withOperand
     firstRegisters secondRegisters registered registersEffect accumulated withAEffect worded withWordEffect longEffect
 more-rows =

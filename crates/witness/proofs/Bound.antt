@@ -9,7 +9,7 @@ use lib.ListN.{getD, List·getD-map}
 use borrow.Author.Tests.{le-leb}
 use Rattle.word.proofs.Table.{holds}
 use Rattle.memory.specs.Memory.{lowestBytes, storeAll, AreBytes}
-use Rattle.schedule.specs.Schedule.{risingAfter, rising, inForce}
+use Rattle.schedule.specs.Schedule.{risingAfter, rising, anyWithdrawn, inForce}
 use Rattle.opcodes.specs.Map.{cellOf}
 use Rattle.opcodes.specs.Postbyte.{reservedOf, lengthOf, costOf}
 use Rattle.decode.specs.Decode.{fetchedOf}
@@ -114,7 +114,7 @@ clock-after : (n : ℕ) → n < 3 → stateAt (suc n) slowest upAtTwo .clock ≡
 clock-after n h = ap (λ (v : Seen). v .clock) (step n h)
 
 not-refused : runRefusal (resetOf slowest) slowest upAtTwo 23 ≡ 0
-unfolding slowest rising risingAfter
+unfolding slowest rising risingAfter anyWithdrawn
 not-refused = refl
 
 stays-up : StaysUp 2 upAtTwo
