@@ -56,17 +56,19 @@ extern "C" {
 /*
  * A line byte says which requests are up.
  *
- *    bit 0  XIRQ, vector $FFF4, masked by X      bit 4  a device, vector $FFEC, masked by I
- *    bit 1  IRQ, vector $FFF2, masked by I       bit 5  a device, vector $FFEA, masked by I
- *    bit 2  a device, vector $FFF0, masked by I  bit 6  a device, vector $FFE8, masked by I
- *    bit 3  a device, vector $FFEE, masked by I  bit 7  a device, vector $FFE6, masked by I
+ *    bit 0  XIRQ, vector $FFF4, masked by X      bit 3  a device, vector $FFEE, masked by I
+ *    bit 1  IRQ, vector $FFF2, masked by I       bit 4  a device, vector $FFEC, masked by I
+ *    bit 2  a device, vector $FFF0, masked by I  bit 5  a device, vector $FFEA, masked by I
+ *
+ * Bits 6 and 7 are no lines. A byte that sets one is refused with CPU12_WRONG_LINE: that of a step, and that of any record of a
+ * schedule, whether it would come into force or not.
  *
  * The bits are levels: a request counts only while its bit is in the byte that is in force at a boundary between two steps, and nothing
  * is remembered of it. Of those that are up and not masked the lowest bit goes first.
  */
 #define CPU12_XIRQ 0x01
 #define CPU12_IRQ 0x02
-#define CPU12_LINE(bit) (1 << (bit))          /* of bit 0 to 7 */
+#define CPU12_LINE(bit) (1 << (bit))          /* of bit 0 to 5 */
 #define CPU12_VECTOR(bit) (0xFFF4 - 2 * (bit)) /* where its word lies, highest byte first */
 
 /*
@@ -76,13 +78,14 @@ extern "C" {
 #define CPU12_RECORD 5
 #define CPU12_RECORDS 64
 
-/* The replies of the machine. 4 and 5 leave the state before the instruction; 1, 2 and 3 leave all as it was, with 0 cycles used. */
+/* The replies of the machine. 4 and 5 leave the state before the instruction; 1, 2, 3 and 15 leave all as it was, with 0 cycles used. */
 #define CPU12_DONE 0              /* the step or the reset was done; the run's next step costs more than is left */
 #define CPU12_WRONG_MEMORY 1      /* the memory is not 65,536 bytes long */
 #define CPU12_WRONG_SCHEDULE 2    /* over 64 records, or cycle numbers that do not strictly rise */
 #define CPU12_PAST_LIMIT 3        /* a budget over 100,000,000, a clock that would pass 4,000,000,000 */
 #define CPU12_STOPPED 4           /* the opcode is one of the ten that stop the machine */
 #define CPU12_RESERVED_POSTBYTE 5 /* a postbyte of the instruction is reserved */
+#define CPU12_WRONG_LINE 15       /* a line byte with bit 6 or 7 set; tested after 1 and 2, and before 3 */
 
 /*
  * The ten: 00 BGND, 01 MEM, 0A RTC, 3C wavr, 4A and 4B CALL, 18 3A REV, 18 3B REVW, 18 3C WAV, 18 3E STOP.
@@ -106,12 +109,12 @@ uint32_t cpu12_version(void);
  */
 uint32_t cpu12_reset(uint8_t *state, size_t state_length, const uint8_t *memory, size_t memory_length);
 
-/* One step under a line byte. Gives 100, 101, 103, 1, 3, 4, 5 or 0, tested in this order. */
+/* One step under a line byte. Gives 100, 101, 103, 1, 15, 3, 4, 5 or 0, tested in this order. */
 uint32_t cpu12_step(uint8_t *state, size_t state_length, uint8_t *memory, size_t memory_length, uint8_t line);
 
 /*
- * Steps until the next one costs more than is left of the budget, or the machine stops. Gives 100, 101, 103, 102, 1, 2 or 3, tested in
- * this order, or 4, 5 or 0.
+ * Steps until the next one costs more than is left of the budget, or the machine stops. Gives 100, 101, 103, 102, 1, 2, 15 or 3, tested
+ * in this order, or 4, 5 or 0.
  */
 uint32_t cpu12_run(uint8_t *state, size_t state_length, uint8_t *memory, size_t memory_length, const uint8_t *schedule,
                    size_t schedule_length, uint32_t budget);

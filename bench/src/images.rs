@@ -188,12 +188,11 @@ const HANDLERS: [(u16, [u8; 7]); 3] = [
     ]),
 ];
 
-/// The trap, SWI, XIRQ, IRQ and the six devices, from $FFF8 downward.
-const HANDLER_OF: [u16; 10] =
-    [0x4300, 0x4300, 0x4200, 0x4100, 0x4100, 0x4100, 0x4100, 0x4100, 0x4100, 0x4100];
+/// The trap, SWI, XIRQ, IRQ and the four devices, from $FFF8 downward.
+const HANDLER_OF: [u16; 8] = [0x4300, 0x4300, 0x4200, 0x4100, 0x4100, 0x4100, 0x4100, 0x4100];
 
 /// The line bytes, each in force for a 64th of the run.
-const LINES: [u8; 8] = [0x02, 0x01, 0x84, 0x03, 0x80, 0x00, 0x40, 0x05];
+const LINES: [u8; 8] = [0x02, 0x01, 0x24, 0x03, 0x20, 0x00, 0x10, 0x05];
 
 fn interrupts(name: &'static str, budget: u32) -> Image {
     let mut image = plain(name, budget, REQUESTED);

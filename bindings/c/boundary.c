@@ -8,6 +8,10 @@
 #include <stdlib.h>
 #include <string.h>
 
+/* The lines of a line byte, bits 0 to 5. */
+#define LINES 6
+#define ALL_LINES 0x3F
+
 static uint8_t memory[CPU12_MEMORY + 3];
 static uint8_t before[CPU12_MEMORY + 3];
 
@@ -131,12 +135,12 @@ static void requests(void)
 {
     uint8_t state[CPU12_STATE];
 
-    for (int bit = 0; bit < 8; bit++) {
+    for (int bit = 0; bit < LINES; bit++) {
         begin(state, (const uint8_t *)"\xA7", 1);
         cpu12_set_word(memory + CPU12_VECTOR(bit), 0x5678);
         cpu12_set_sp(state, 0x2000);
         cpu12_set_ccr(state, 0x80);
-        expect("an entry", CPU12_DONE, step(state, (uint8_t)(0xFF << bit)));
+        expect("an entry", CPU12_DONE, step(state, (uint8_t)(ALL_LINES & 0xFF << bit)));
         expect("PC after an entry", 0x5678, cpu12_get_pc(state));
         expect("cycles of an entry", 9, cpu12_get_cycles(state));
         expect("CCR after an entry", CPU12_LINE(bit) == CPU12_XIRQ ? 0xD0 : 0x90, cpu12_get_ccr(state));
@@ -145,6 +149,80 @@ static void requests(void)
         cpu12_set_ccr(state, CPU12_LINE(bit) == CPU12_XIRQ ? 0xC0 : 0x90);
         expect("a masked request", CPU12_DONE, step(state, (uint8_t)CPU12_LINE(bit)));
         expect("PC after a NOP", 0x4001, cpu12_get_pc(state));
+    }
+}
+
+/* What a step under this byte gives, or a run over these records where there are any. A refusal has to leave all as it was. */
+static uint32_t kept(const uint8_t *lent, size_t n, const uint8_t *schedule, size_t records, uint8_t line, uint32_t budget)
+{
+    uint8_t state[CPU12_STATE];
+    uint32_t reply;
+
+    memcpy(state, lent, sizeof state);
+    memcpy(before, memory, sizeof memory);
+    reply = records == 0 ? cpu12_step(state, CPU12_STATE, memory, n, line)
+                         : cpu12_run(state, CPU12_STATE, memory, n, schedule, records * CPU12_RECORD, budget);
+    if (reply != CPU12_DONE) {
+        expect("cycles of a refusal", 0, cpu12_get_cycles(state));
+        expect("state after a refusal", 0, memcmp(state, lent, CPU12_AT_CYCLES) != 0);
+        expect("memory after a refusal", 0, memcmp(memory, before, sizeof memory) != 0);
+    }
+    return reply;
+}
+
+/* Every line byte, in a step and in a record of a full schedule, and a few of them in each of its records. None comes into force. */
+static void lines(void)
+{
+    const uint8_t nops[] = {0xA7, 0xA7, 0xA7};
+    uint8_t state[CPU12_STATE], schedule[CPU12_RECORDS * CPU12_RECORD];
+
+    begin(state, nops, sizeof nops);
+    expect("NOP", CPU12_DONE, step(state, 0));
+    for (size_t i = 0; i < CPU12_RECORDS; i++)
+        cpu12_set_record(schedule, i, 0xFFFFFF00 + (uint32_t)i, 0);
+    for (int line = 0; line < 256; line++) {
+        int everywhere = line == ALL_LINES || line == 0x40 || line == 0x80;
+        size_t place = everywhere ? 0 : (size_t)line % CPU12_RECORDS, end = everywhere ? CPU12_RECORDS : place + 1;
+        uint32_t expected = line > ALL_LINES ? CPU12_WRONG_LINE : CPU12_DONE;
+        expect("a line byte", expected, kept(state, CPU12_MEMORY, NULL, 0, (uint8_t)line, 0));
+        for (; place < end; place++) {
+            schedule[place * CPU12_RECORD + 4] = (uint8_t)line;
+            expect("a record's line byte", expected, kept(state, CPU12_MEMORY, schedule, CPU12_RECORDS, 0, 1));
+            schedule[place * CPU12_RECORD + 4] = 0;
+        }
+    }
+}
+
+/* The place of reply 15: after the doors' own refusals, 1 and 2, and before 3, 4 and 5. */
+static void order_of_lines(void)
+{
+    const uint8_t stop[] = {0x00}, reserved[] = {0xB7, 0x35};
+    uint8_t state[CPU12_STATE], one[2 * CPU12_RECORD];
+
+    for (int bit = LINES; bit < 8; bit++) {
+        uint8_t line = (uint8_t)(1 << bit);
+        cpu12_set_record(one, 0, 5, line);
+        cpu12_set_record(one, 1, 5, 0);
+        begin(state, reserved, sizeof reserved);
+        expect("15 before 5", CPU12_WRONG_LINE, kept(state, CPU12_MEMORY, NULL, 0, line, 0));
+        expect("15 before 5 in a run", CPU12_WRONG_LINE, kept(state, CPU12_MEMORY, one, 1, 0, 0));
+        begin(state, stop, sizeof stop);
+        expect("15 before 4", CPU12_WRONG_LINE, kept(state, CPU12_MEMORY, NULL, 0, line, 0));
+        expect("15 before 4 in a run", CPU12_WRONG_LINE, kept(state, CPU12_MEMORY, one, 1, 0, 0));
+        expect("15 before 3 in a run", CPU12_WRONG_LINE, kept(state, CPU12_MEMORY, one, 1, 0, 100000001));
+        expect("2 before 15", CPU12_WRONG_SCHEDULE, kept(state, CPU12_MEMORY, one, 2, 0, 1));
+        cpu12_set_clock(state, 3999999901u);
+        expect("15 before 3", CPU12_WRONG_LINE, kept(state, CPU12_MEMORY, NULL, 0, line, 0));
+        expect("3 without the bit", CPU12_PAST_LIMIT, kept(state, CPU12_MEMORY, NULL, 0, 0, 0));
+        expect("1 before 15", CPU12_WRONG_MEMORY, kept(state, CPU12_MEMORY - 1, NULL, 0, line, 0));
+        expect("1 before 15 in a run", CPU12_WRONG_MEMORY, kept(state, CPU12_MEMORY - 1, one, 1, 0, 1));
+        expect("102 before 15", CPU12_WRONG_PACKING,
+               cpu12_run(state, CPU12_STATE, memory, CPU12_MEMORY, one, CPU12_RECORD + 1, 1));
+        state[CPU12_AT_RESERVED] = 1;
+        expect("103 before 15", CPU12_WRONG_RESERVED, step(state, line));
+        state[CPU12_AT_WAITING] = 2;
+        expect("101 before 15", CPU12_WRONG_FLAG, step(state, line));
+        expect("100 before 15", CPU12_WRONG_LENGTH, cpu12_step(state, CPU12_STATE - 1, memory, CPU12_MEMORY, line));
     }
 }
 
@@ -172,6 +250,8 @@ int main(void)
     refusals();
     fields();
     requests();
+    lines();
+    order_of_lines();
     for (size_t n = 0; n <= 3; n++)
         length(n);
     for (size_t n = CPU12_MEMORY - 3; n <= CPU12_MEMORY + 3; n++)

@@ -42,7 +42,8 @@ pub enum Next {
     Reserved,
 }
 
-/// Works out the step that begins in this state under this line byte.
+/// Works out the step that begins in this state under this line byte. A byte with a bit
+/// above those of the lines is refused before anybody asks here.
 pub fn next(cpu: &Cpu, memory: &[u8], lines: u8) -> Next {
     if let Some(line) = allowed_request(cpu, lines) {
         return Next::Do(if cpu.waiting {
@@ -59,7 +60,7 @@ pub fn next(cpu: &Cpu, memory: &[u8], lines: u8) -> Next {
 
 /// The lowest line that is up and not masked: XIRQ by X, the others by I.
 fn allowed_request(cpu: &Cpu, lines: u8) -> Option<u8> {
-    (0..8).find(|&line| {
+    (0..Cpu::LINES).find(|&line| {
         let mask = if line == 0 { X } else { I };
         lines >> line & 1 == 1 && !cpu.flag(mask)
     })

@@ -262,7 +262,7 @@ pub fn answer_watched(case: &Case, memories: &mut Memories, watcher: &mut Watche
 
 impl fmt::Display for Answer {
     fn fmt(&self, f: &mut fmt::Formatter) -> fmt::Result {
-        write!(f, "{} {:X}", self.outcome.reply.number(), self.outcome.cycles)?;
+        write!(f, "{:X} {:X}", self.outcome.reply.number(), self.outcome.cycles)?;
         write_cpu(f, &self.cpu)?;
         write!(f, " {:X}", self.sum)
     }

@@ -3,6 +3,7 @@
 use crate::boundary::{Kind, Next};
 use crate::case::{answer_watched, Case, Memories};
 use crate::cpu::Cpu;
+use crate::machine::Reply;
 use crate::memory::read8;
 use crate::opcodes::{cell_at, find, Form, Found, PREBYTE};
 use crate::postbyte::{Accumulator, Base, Index, IndexForm};
@@ -25,6 +26,8 @@ const PLAIN_FORMS: [(&str, &[Form]); 14] = [
     ("IDX-IDX", &[Form::MoveIndexedIndexed]),
 ];
 
+const LINES: usize = Cpu::LINES as usize;
+
 /// Counts, by the numbers that the enumerations and bytes have.
 pub struct Coverage {
     pub cases: u64,
@@ -33,9 +36,10 @@ pub struct Coverage {
     indexed: [u64; 256],
     transfers: [u64; 256],
     loops: [u64; 256],
-    replies: [u64; 6],
-    entries: [u64; 8],
-    wait_ends: [u64; 8],
+    /// By the places in `Reply::ALL`.
+    replies: [u64; Reply::ALL.len()],
+    entries: [u64; LINES],
+    wait_ends: [u64; LINES],
     idle: u64,
 }
 
@@ -48,9 +52,9 @@ impl Default for Coverage {
             indexed: [0; 256],
             transfers: [0; 256],
             loops: [0; 256],
-            replies: [0; 6],
-            entries: [0; 8],
-            wait_ends: [0; 8],
+            replies: [0; Reply::ALL.len()],
+            entries: [0; LINES],
+            wait_ends: [0; LINES],
             idle: 0,
         }
     }
@@ -62,7 +66,7 @@ impl Coverage {
         let answer =
             answer_watched(case, memories, &mut |cpu, memory, next| self.watch(cpu, memory, next));
         self.cases += 1;
-        self.replies[usize::from(answer.outcome.reply.number())] += 1;
+        self.replies[answer.outcome.reply as usize] += 1;
     }
 
     fn watch(&mut self, cpu: &Cpu, memory: &[u8], next: &Next) {
@@ -157,10 +161,10 @@ impl Coverage {
         lines.push(postbyte_line("indexed", &self.indexed));
         lines.push(postbyte_line("transfer", &self.transfers));
         lines.push(postbyte_line("loop", &self.loops));
-        for (number, count) in self.replies.iter().enumerate() {
-            lines.push(format!("reply {} {}", number, count));
+        for (reply, count) in Reply::ALL.iter().zip(self.replies) {
+            lines.push(format!("reply {:X} {}", reply.number(), count));
         }
-        for line in 0..8 {
+        for line in 0..LINES {
             let (entries, ends) = (self.entries[line], self.wait_ends[line]);
             lines.push(format!("line {} entries {} wait-ends {}", line, entries, ends));
         }

@@ -32,6 +32,8 @@ impl Cpu {
     pub const TRAP_VECTOR: u16 = 0xFFF8;
     pub const SWI_VECTOR: u16 = 0xFFF6;
     pub const XIRQ_VECTOR: u16 = 0xFFF4;
+    /// The request lines: XIRQ, IRQ and four devices, bits 0 to 5 of a line byte.
+    pub const LINES: u8 = 6;
 
     /// The state that a reset leaves, with PC given by the caller.
     pub fn after_reset(pc: u16) -> Cpu {

@@ -37,6 +37,11 @@ const LONG_BUDGET: u32 = 20_000;
 /// How many different images most cases share.
 const SHARED_SEEDS: usize = 12;
 const CELLS: u32 = 512;
+/// The percentage of the line bytes of steps, and of schedules, that set a bit which is no
+/// line: enough to meet that refusal, and few enough to leave the others their cases.
+const WRONG_LINES: u32 = 6;
+/// The lowest vector of a request; the others lie above it, and that of the traps last.
+const LAST_VECTOR: u16 = Cpu::XIRQ_VECTOR - 2 * (Cpu::LINES as u16 - 1);
 
 pub struct Generator {
     kind: Kind,
@@ -138,6 +143,9 @@ impl Generator {
             draft.cpu.clock = self.random.below(1_000_000);
         } else {
             lines = self.lines();
+            if self.random.chance(WRONG_LINES) {
+                self.spoil_lines(&mut lines);
+            }
             draft.cpu.waiting = self.random.chance(6);
             draft.cpu.clock = self.step_clock();
         }
@@ -251,7 +259,7 @@ impl Generator {
         match self.random.below(10) {
             0..=3 => self.random.word(),
             4 | 5 => self.near(pc),
-            6 | 7 => self.random.between(0xFFE8, 0xFFFF) as u16,
+            6 | 7 => self.random.between(u32::from(LAST_VECTOR), 0xFFFF) as u16,
             8 => self.random.below(12) as u16,
             _ => self.random.pick(&[0, 1, 0x7FFF, 0x8000, 0xFFFE, 0xFFFF]),
         }
@@ -403,7 +411,7 @@ impl Generator {
 
     /// Vectors that lead to short handlers, mostly ended by RTI.
     fn add_vectors(&mut self, draft: &mut Draft) {
-        for vector in (0xFFE6..=0xFFF8).step_by(2) {
+        for vector in (LAST_VECTOR..=Cpu::TRAP_VECTOR).step_by(2) {
             if self.random.chance(15) {
                 continue;
             }
@@ -426,10 +434,15 @@ impl Generator {
     fn lines(&mut self) -> u8 {
         match self.random.below(10) {
             0..=4 => 0,
-            5 | 6 => 1 << self.random.below(8),
+            5 | 6 => 1 << self.random.below(u32::from(Cpu::LINES)),
             7 => 1,
-            _ => self.random.byte(),
+            _ => self.random.below(1 << Cpu::LINES) as u8,
         }
+    }
+
+    /// Sets bits that are no lines.
+    fn spoil_lines(&mut self, lines: &mut u8) {
+        *lines |= self.random.pick(&[1, 2, 3]) << Cpu::LINES;
     }
 
     fn step_clock(&mut self) -> u32 {
@@ -483,7 +496,25 @@ impl Generator {
         if count >= 2 && self.random.chance(10) {
             self.spoil(&mut schedule);
         }
+        if count >= 1 && self.random.chance(WRONG_LINES) {
+            self.spoil_lines_of(&mut schedule);
+        }
         schedule
+    }
+
+    /// Sets bits that are no lines in the first record, in the last, in any, or in all.
+    fn spoil_lines_of(&mut self, schedule: &mut [Record]) {
+        let count = schedule.len();
+        let any = self.random.below(count as u32) as usize;
+        let spoiled = match self.random.below(4) {
+            0 => 0..1,
+            1 => count - 1..count,
+            2 => any..any + 1,
+            _ => 0..count,
+        };
+        for record in &mut schedule[spoiled] {
+            self.spoil_lines(&mut record.lines);
+        }
     }
 
     /// Makes one record equal to the one before it, or earlier.

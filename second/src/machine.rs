@@ -28,9 +28,22 @@ pub enum Reply {
     Stop,
     /// A reserved postbyte.
     Reserved,
+    /// A line byte with a bit that is no line.
+    WrongLine,
 }
 
 impl Reply {
+    /// All of them, in the order of their numbers.
+    pub const ALL: [Reply; 7] = [
+        Reply::Done,
+        Reply::WrongMemory,
+        Reply::WrongSchedule,
+        Reply::WrongTime,
+        Reply::Stop,
+        Reply::Reserved,
+        Reply::WrongLine,
+    ];
+
     pub fn number(self) -> u8 {
         match self {
             Reply::Done => 0,
@@ -39,6 +52,7 @@ impl Reply {
             Reply::WrongTime => 3,
             Reply::Stop => 4,
             Reply::Reserved => 5,
+            Reply::WrongLine => 15,
         }
     }
 }
@@ -88,6 +102,9 @@ pub fn step_watched(cpu: &mut Cpu, memory: &mut [u8], lines: u8, watcher: &mut W
     if memory.len() != SIZE {
         return refused(Reply::WrongMemory);
     }
+    if !lines_are_right(lines) {
+        return refused(Reply::WrongLine);
+    }
     if cpu.clock > MOST_STEP_CLOCK {
         return refused(Reply::WrongTime);
     }
@@ -112,9 +129,31 @@ fn schedule_is_right(schedule: &[Record]) -> bool {
     schedule.len() <= MOST_RECORDS && schedule.windows(2).all(|pair| pair[0].cycle < pair[1].cycle)
 }
 
+/// Bits 6 and 7 were the lines of the keypad board, which is withdrawn. A byte that sets one
+/// is refused and not read without it, since a recorded run would else do something new.
+fn lines_are_right(lines: u8) -> bool {
+    lines >> Cpu::LINES == 0
+}
+
 /// A refusal costs nothing, so it is given even with nothing left.
 fn costs_more_than(coming: &Next, left: u32) -> bool {
     matches!(coming, Next::Do(effect) if effect.cost > left)
+}
+
+/// Why a run is refused, if it is, in the order of the tests. Every record counts, whether it
+/// would come into force or not.
+fn run_refusal(cpu: &Cpu, memory: &[u8], schedule: &[Record], budget: u32) -> Option<Reply> {
+    if memory.len() != SIZE {
+        Some(Reply::WrongMemory)
+    } else if !schedule_is_right(schedule) {
+        Some(Reply::WrongSchedule)
+    } else if !schedule.iter().all(|record| lines_are_right(record.lines)) {
+        Some(Reply::WrongLine)
+    } else if budget > MOST_BUDGET || u64::from(cpu.clock) + u64::from(budget) > MOST_CLOCK {
+        Some(Reply::WrongTime)
+    } else {
+        None
+    }
 }
 
 /// A run: steps until the next one costs more than is left, or a refusal.
@@ -129,14 +168,8 @@ pub fn run_watched(
     budget: u32,
     watcher: &mut Watcher,
 ) -> Outcome {
-    if memory.len() != SIZE {
-        return refused(Reply::WrongMemory);
-    }
-    if !schedule_is_right(schedule) {
-        return refused(Reply::WrongSchedule);
-    }
-    if budget > MOST_BUDGET || u64::from(cpu.clock) + u64::from(budget) > MOST_CLOCK {
-        return refused(Reply::WrongTime);
+    if let Some(reply) = run_refusal(cpu, memory, schedule, budget) {
+        return refused(reply);
     }
     let mut cycles = 0;
     loop {

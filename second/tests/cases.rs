@@ -30,6 +30,8 @@ fn one_answer_of_each_kind() {
         format!("0 0 0 0 0 0 0 4000 D0 0 0 {:X}", 0xFFFFu64 * 0x40)
     );
     assert_eq!(answer_line("z 0 0 0"), "1 0 0 0 0 0 0 0 D0 0 0 0");
+    // A reply is a hexadecimal number too.
+    assert_eq!(answer_line("s 10000 0 0 1 2 3 4 5 6 7 0 8 40"), "F 0 1 2 3 4 5 6 7 0 8 0");
 }
 
 #[test]
@@ -239,6 +241,47 @@ fn limits_are_generated() {
     }
 }
 
+/// Whether a case sets a bit of a line byte that is no line.
+fn has_wrong_lines(case: &Case) -> bool {
+    match &case.action {
+        Action::Step { lines, .. } => lines >> 6 != 0,
+        Action::Run { schedule, .. } => schedule.iter().any(|record| record.lines >> 6 != 0),
+        Action::Reset => false,
+    }
+}
+
+#[test]
+fn about_one_case_in_twenty_sets_a_bit_that_is_no_line() {
+    let mut memories = Memories::default();
+    for (kind, refusals_before) in [(Kind::Step, &[1][..]), (Kind::Run, &[1, 2])] {
+        let cases = generated(kind, 20_000, 23);
+        let wrong: Vec<&Case> = cases.iter().filter(|case| has_wrong_lines(case)).collect();
+        assert!((700..1_300).contains(&wrong.len()), "{}", wrong.len());
+        let replies: Vec<u8> =
+            wrong.iter().map(|case| answer(case, &mut memories).outcome.reply.number()).collect();
+        assert!(replies.iter().all(|reply| refusals_before.contains(reply) || *reply == 15));
+        assert!(refusals_before.iter().all(|reply| replies.contains(reply)));
+    }
+}
+
+/// The bits stand in the first record alone, in the last alone, and in a schedule whose budget
+/// or clock is past its limit.
+#[test]
+fn every_place_of_a_wrong_line_byte_is_generated() {
+    let (mut first, mut last, mut past_limits) = (0, 0, 0);
+    for case in generated(Kind::Run, 20_000, 29).iter().filter(|case| has_wrong_lines(case)) {
+        if let Action::Run { cpu, budget, schedule } = &case.action {
+            let wrong = |record: &Record| record.lines >> 6 != 0;
+            let alone = schedule.len() > 1 && schedule.iter().filter(|r| wrong(r)).count() == 1;
+            first += u32::from(alone && wrong(&schedule[0]));
+            last += u32::from(alone && wrong(&schedule[schedule.len() - 1]));
+            let end = u64::from(cpu.clock) + u64::from(*budget);
+            past_limits += u32::from(*budget > 100_000_000 || end > 4_000_000_000);
+        }
+    }
+    assert!(first > 50 && last > 50 && past_limits > 50, "{first} {last} {past_limits}");
+}
+
 /// Runs that end at the edge of a step: with this budget and no more the last step is
 /// taken; with one cycle less it is not.
 #[test]
@@ -291,7 +334,7 @@ fn a_run_equals_its_steps() {
             Action::Run { cpu, budget, schedule } => (cpu, *budget, schedule),
             _ => unreachable!("only runs were asked for"),
         };
-        let refused = matches!(whole.outcome.reply.number(), 1..=3);
+        let refused = matches!(whole.outcome.reply.number(), 1..=3 | 15);
         // Close to the last clock value a single step is refused, a run is not.
         if refused || cpu.clock > 3_990_000_000 || whole.outcome.cycles > 2_000 {
             continue;

@@ -1,4 +1,4 @@
-//! The replies 0 to 5, their order, and that a refusal changes nothing.
+//! The replies 0 to 5 and 15, their order, and that a refusal changes nothing.
 
 mod common;
 
@@ -34,6 +34,93 @@ fn a_run_is_refused_in_the_order_1_2_3() {
     assert_eq!(refused_run(65_536, &[], u32::MAX, 100_000_000), 3);
     assert_eq!(refused_run(65_536, &[], 4_000_000_001, 0), 3);
     assert_eq!(refused_run(65_536, &[], 4_000_000_000, 0), 0);
+}
+
+/// Each bit that is no line, both of them, and both among the lines.
+const NO_LINES: [u8; 4] = [0x40, 0x80, 0xC0, 0xFF];
+
+/// A schedule that rises by 10 from cycle 5 on, with the line byte 2 in every record but one.
+fn with_lines_at(count: usize, place: usize, lines: u8) -> Vec<Record> {
+    let lines_of = |n| if n == place { lines } else { 2 };
+    (0..count).map(|n| Record { cycle: 5 + 10 * n as u32, lines: lines_of(n) }).collect()
+}
+
+#[test]
+fn a_run_is_refused_for_a_line_byte_in_any_record() {
+    for lines in NO_LINES {
+        for count in [1, 2, 3, 63, 64] {
+            for place in 0..count {
+                let schedule = with_lines_at(count, place, lines);
+                // With a budget that ends before the first record too, and from a clock after
+                // the last one.
+                for (clock, budget) in [(0, 0), (0, 4), (0, 1_000), (100_000, 1)] {
+                    assert_eq!(refused_run(65_536, &schedule, clock, budget), 15);
+                }
+            }
+        }
+        // A record that no clock value of any run comes to.
+        let never = [Record { cycle: u32::MAX, lines }];
+        assert_eq!(refused_run(65_536, &never, 0, 1), 15);
+    }
+}
+
+#[test]
+fn bits_0_to_5_in_any_record_are_accepted() {
+    for lines in 0..=0x3F {
+        let mut bench = Bench::with(&[0xA7, 0xA7, 0xA7]);
+        assert_eq!(bench.run(&with_lines_at(64, 63, lines), 2).reply, Reply::Done);
+        assert_eq!((bench.cpu.pc, bench.cpu.clock), (0x4002, 2));
+    }
+}
+
+#[test]
+fn reply_15_of_a_run_comes_after_1_and_2_and_before_3() {
+    for lines in NO_LINES {
+        let rising = with_lines_at(2, 0, lines);
+        let level = [rising[0], rising[0]];
+        let falling = [rising[1], rising[0]];
+        let too_many = with_lines_at(65, 64, lines);
+        for (clock, budget) in [(0, 1), (0, u32::MAX), (u32::MAX, 100_000_000)] {
+            for length in [0, 65_535, 65_537] {
+                assert_eq!(refused_run(length, &rising, clock, budget), 1);
+                assert_eq!(refused_run(length, &level, clock, budget), 1);
+            }
+            for schedule in [&level[..], &falling, &too_many] {
+                assert_eq!(refused_run(65_536, schedule, clock, budget), 2);
+            }
+            assert_eq!(refused_run(65_536, &rising, clock, budget), 15);
+        }
+        // Without the bits the same runs are refused for their times.
+        assert_eq!(refused_run(65_536, &with_lines_at(2, 0, 2), 0, 100_000_001), 3);
+        assert_eq!(refused_run(65_536, &rising, 0, 100_000_001), 15);
+        assert_eq!(refused_run(65_536, &rising, 4_000_000_000, 1), 15);
+    }
+}
+
+#[test]
+fn reply_15_of_a_step_comes_after_1_and_before_3_4_and_5() {
+    for lines in NO_LINES {
+        let mut cpu = Cpu { clock: u32::MAX, ..Cpu::default() };
+        for length in [0, 65_535, 65_537] {
+            let reply = step(&mut cpu, &mut vec![0; length], lines).reply;
+            assert_eq!(reply, Reply::WrongMemory);
+        }
+        // A stop, a reserved postbyte, a NOP, and an idle cycle, within the limit of the clock
+        // and past it: without the bits 4, 5, 0, 0 and four times 3.
+        let codes =
+            [(&[0x00][..], false), (&[0xB7, 0x33], false), (&[0xA7], false), (&[0xA7], true)];
+        for ((code, waiting), reply) in codes.into_iter().zip([4, 5, 0, 0]) {
+            for (clock, reply) in [(3_999_999_900, reply), (3_999_999_901, 3), (u32::MAX, 3)] {
+                let mut bench = Bench::with(code);
+                (bench.cpu.clock, bench.cpu.waiting) = (clock, waiting);
+                let before = (bench.cpu, bench.memory.clone());
+                let outcome = bench.try_step(lines);
+                assert_eq!((outcome.reply, outcome.cycles), (Reply::WrongLine, 0));
+                assert!((bench.cpu, &bench.memory) == (before.0, &before.1));
+                assert_eq!(bench.try_step(lines & 0x3F).reply.number(), reply);
+            }
+        }
+    }
 }
 
 #[test]
@@ -99,10 +186,10 @@ fn the_last_record_at_or_before_the_clock_counts() {
     let schedule = [
         Record { cycle: 10, lines: 1 },
         Record { cycle: 20, lines: 0 },
-        Record { cycle: 30, lines: 0x80 },
+        Record { cycle: 30, lines: 0x20 },
     ];
     for (clock, lines) in
-        [(0, 0), (9, 0), (10, 1), (19, 1), (20, 0), (29, 0), (30, 0x80), (u32::MAX, 0x80)]
+        [(0, 0), (9, 0), (10, 1), (19, 1), (20, 0), (29, 0), (30, 0x20), (u32::MAX, 0x20)]
     {
         assert_eq!(lines_at(&schedule, clock), lines, "{}", clock);
     }

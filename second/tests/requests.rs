@@ -9,7 +9,7 @@ use second::machine::{Record, Reply};
 /// Every vector points at its own line number times $100 above $5000, with NOPs there.
 fn with_vectors(code: &[u8]) -> Bench {
     let mut bench = Bench::with(code);
-    for line in 0..8u16 {
+    for line in 0..6u16 {
         bench.put(0xFFF4 - 2 * line, &(0x5000 + 0x100 * line).to_be_bytes());
         bench.put(0x5000 + 0x100 * line, &[0xA7, 0xA7, 0x0B]);
     }
@@ -31,13 +31,13 @@ fn the_frame_of_an_entry() {
 
 #[test]
 fn the_lowest_allowed_line_goes_first() {
-    for lines in 1..=255u8 {
+    for lines in 1..=0x3Fu8 {
         for masks in [0x00, 0x10, 0x40, 0x50] {
             let mut bench = with_vectors(&[0xA7]);
             bench.cpu.ccr = masks;
             bench.step_under(lines);
             let allowed = (if masks & 0x40 == 0 { lines & 0x01 } else { 0 })
-                | (if masks & 0x10 == 0 { lines & 0xFE } else { 0 });
+                | (if masks & 0x10 == 0 { lines & 0x3E } else { 0 });
             if allowed == 0 {
                 assert_eq!((bench.cpu.pc, bench.cpu.ccr), (0x4001, masks));
                 continue;
@@ -45,6 +45,31 @@ fn the_lowest_allowed_line_goes_first() {
             let line = allowed.trailing_zeros() as u16;
             let set = if line == 0 { 0x50 } else { 0x10 };
             assert_eq!((bench.cpu.pc, bench.cpu.ccr), (0x5000 + 0x100 * line, masks | set));
+        }
+    }
+}
+
+/// A machine that would enter, wake, idle or go on under a line byte is refused under the same
+/// byte with bit 6 or 7 set, and goes on as it would have under the byte without them.
+#[test]
+fn a_bit_that_is_no_line_is_refused_and_not_dropped() {
+    for lines in 0..=0xFFu8 {
+        for (masks, waiting) in [(0x00, false), (0x50, false), (0x00, true), (0x50, true)] {
+            let mut bench = with_vectors(&[0xA7]);
+            (bench.cpu.ccr, bench.cpu.waiting) = (masks, waiting);
+            let (cpu, memory) = (bench.cpu, bench.memory.clone());
+            let outcome = bench.try_step(lines);
+            assert_eq!(outcome.reply == Reply::WrongLine, lines > 0x3F, "{:X}", lines);
+            if lines > 0x3F {
+                assert_eq!((outcome.cycles, bench.cpu), (0, cpu));
+                assert!(bench.memory == memory);
+                bench.step_under(lines & 0x3F);
+            }
+            let mut other = with_vectors(&[0xA7]);
+            (other.cpu.ccr, other.cpu.waiting) = (masks, waiting);
+            other.step_under(lines & 0x3F);
+            assert_eq!(bench.cpu, other.cpu, "{:X}", lines);
+            assert!(bench.memory == other.memory);
         }
     }
 }
@@ -82,12 +107,12 @@ fn a_masked_request_does_not_wake() {
     let mut bench = with_vectors(&[0x3E]);
     bench.cpu.ccr = 0x50;
     bench.step();
-    assert_eq!(bench.step_under(0xFF), 1);
+    assert_eq!(bench.step_under(0x3F), 1);
     assert!(bench.cpu.waiting);
     // With X clear only XIRQ wakes, and it sets both masks.
     bench.cpu.ccr = 0x10;
-    assert_eq!(bench.step_under(0xFE), 1);
-    assert_eq!(bench.step_under(0xFF), 6);
+    assert_eq!(bench.step_under(0x3E), 1);
+    assert_eq!(bench.step_under(0x3F), 6);
     assert_eq!((bench.cpu.pc, bench.cpu.ccr), (0x5000, 0x50));
 }
 

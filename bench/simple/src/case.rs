@@ -146,7 +146,7 @@ fn print(cpu: &Cpu, outcome: Outcome, memory: &[u8]) -> String {
     let (reply, cycles, ccr) = (outcome.reply.number(), outcome.cycles, cpu.ccr());
     let (waiting, sum) = (u8::from(waiting), weighted_sum(memory));
     format!(
-        "{reply} {cycles:X} {a:X} {b:X} {x:X} {y:X} {sp:X} {pc:X} {ccr:X} {waiting} {clock:X} {sum:X}"
+        "{reply:X} {cycles:X} {a:X} {b:X} {x:X} {y:X} {sp:X} {pc:X} {ccr:X} {waiting} {clock:X} {sum:X}"
     )
 }
 

@@ -61,6 +61,7 @@ pub enum Reply {
     PastLimit,
     Stopped,
     ReservedPostbyte,
+    WrongLine = 15,
 }
 
 impl Reply {
@@ -75,6 +76,9 @@ pub struct Outcome {
     pub reply: Reply,
     pub cycles: u32,
 }
+
+/// The bits of a line byte: XIRQ, IRQ and four devices. The others are refused.
+const LINES: u8 = 0x3F;
 
 const MOST_RECORDS: usize = 64;
 const MOST_BUDGET: u32 = 100_000_000;
@@ -106,6 +110,9 @@ pub fn step(cpu: &mut Cpu, memory: &mut [u8], line: u8) -> Outcome {
         Ok(memory) => memory,
         Err(_) => return refused(Reply::WrongMemory),
     };
+    if line & !LINES != 0 {
+        return refused(Reply::WrongLine);
+    }
     if cpu.clock > MOST_STEP_CLOCK {
         return refused(Reply::PastLimit);
     }
@@ -128,6 +135,9 @@ pub fn run(cpu: &mut Cpu, memory: &mut [u8], schedule: &[Record], budget: u32) -
     let rises = schedule.windows(2).all(|pair| pair[0].cycle < pair[1].cycle);
     if schedule.len() > MOST_RECORDS || !rises {
         return refused(Reply::WrongSchedule);
+    }
+    if schedule.iter().any(|record| record.line & !LINES != 0) {
+        return refused(Reply::WrongLine);
     }
     if budget > MOST_BUDGET || u64::from(cpu.clock) + u64::from(budget) > MOST_CLOCK {
         return refused(Reply::PastLimit);

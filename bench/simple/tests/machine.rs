@@ -31,7 +31,7 @@ fn image(code: &[u8]) -> Vec<u8> {
     put(&mut memory, CODE, code);
     put(&mut memory, IRQ_HANDLER, &[0x72, 0x10, 0x00, RTI]);
     put(&mut memory, XIRQ_HANDLER, &[0x72, 0x10, 0x01, RTI]);
-    for vector in (0xFFE6..0xFFF4).step_by(2) {
+    for vector in (0xFFEA..0xFFF4).step_by(2) {
         put(&mut memory, vector, &IRQ_HANDLER.to_be_bytes());
     }
     put(&mut memory, 0xFFF4, &XIRQ_HANDLER.to_be_bytes());
@@ -123,12 +123,12 @@ fn a_second_run_goes_on_inside_a_wait() {
 fn records_in_the_middle_of_a_wait_that_are_masked() {
     let memory = image(&[WAI, 0x00]);
     // X is set: XIRQ at 150 does not end the wait, the device at 200 does.
-    let schedule = [at(150, 0x01), at(200, 0x81), at(206, 0x00)];
+    let schedule = [at(150, 0x01), at(200, 0x21), at(206, 0x00)];
     let (left, outcome) = both(&ready(CODE, 0x40, 100), &memory, &schedule, 106);
     assert_eq!((left.pc, left.clock, outcome.cycles), (IRQ_HANDLER, 206, 106));
     assert_eq!(left.ccr(), 0x50);
     // X is clear and I is set: it is the other way round.
-    let schedule = [at(150, 0x80), at(200, 0x81), at(206, 0x00)];
+    let schedule = [at(150, 0x20), at(200, 0x21), at(206, 0x00)];
     let (left, _) = both(&ready(CODE, 0x10, 100), &memory, &schedule, 106);
     assert_eq!((left.pc, left.ccr()), (XIRQ_HANDLER, 0x50));
 }
@@ -137,10 +137,10 @@ fn records_in_the_middle_of_a_wait_that_are_masked() {
 fn a_wait_with_both_masks_spends_the_whole_budget() {
     let memory = image(&[WAI]);
     let cpu = ready(CODE, 0x50, 0);
-    let (left, outcome) = both(&cpu, &memory, &[at(20, 0xFF)], 300);
+    let (left, outcome) = both(&cpu, &memory, &[at(20, 0x3F)], 300);
     assert_eq!((left.clock, left.waiting, outcome.cycles), (300, true, 300));
     let (mut cpu, mut bytes) = (cpu, memory);
-    let outcome = run(&mut cpu, &mut bytes, &[at(20, 0xFF)], 100_000_000);
+    let outcome = run(&mut cpu, &mut bytes, &[at(20, 0x3F)], 100_000_000);
     assert_eq!(outcome, Outcome { reply: Reply::Done, cycles: 100_000_000 });
     assert_eq!((cpu.clock, cpu.waiting, cpu.pc), (100_000_000, true, CODE + 1));
 }
@@ -180,7 +180,7 @@ const BUSY: &[u8] = &[
 fn a_run_of_64_records() {
     let mut memory = image(BUSY);
     put(&mut memory, 0xFFF8, &IRQ_HANDLER.to_be_bytes());
-    let lines = [0x02, 0x00, 0x01, 0x84, 0x00, 0x03, 0x40, 0x05];
+    let lines = [0x02, 0x00, 0x01, 0x24, 0x00, 0x03, 0x10, 0x05];
     let record = |i: u32| at(5 + i * 37, lines[i as usize % lines.len()]);
     let schedule: Vec<Record> = (0..64).map(record).collect();
     let cpu = ready(CODE, 0xD0, 0);
@@ -203,6 +203,55 @@ fn a_run_of_65_records_is_refused_and_changes_nothing() {
     assert_eq!(outcome, Outcome { reply: Reply::WrongSchedule, cycles: 0 });
     assert_eq!(after, cpu);
     assert!(bytes == memory);
+}
+
+/// What a run on a memory of this length replies; it has to change nothing.
+fn refused_run(length: usize, schedule: &[Record], clock: u32, budget: u32) -> u8 {
+    let (cpu, memory) = (ready(CODE, 0, clock), vec![NOP; length]);
+    let (mut after, mut bytes) = (cpu.clone(), memory.clone());
+    let outcome = run(&mut after, &mut bytes, schedule, budget);
+    assert_eq!((outcome.cycles, after), (0, cpu));
+    assert!(bytes == memory);
+    outcome.reply.number()
+}
+
+#[test]
+fn a_bit_that_is_no_line_is_refused_in_any_record() {
+    for line in [0x40, 0x80, 0xC0, 0xFF] {
+        for wrong in 0..64 {
+            let record = |i: u32| at(10 * i, if i == wrong { line } else { 0x02 });
+            let schedule: Vec<Record> = (0..64).map(record).collect();
+            for budget in [0, 1, 1_000, 100_000_001] {
+                assert_eq!(refused_run(65_536, &schedule, 0, budget), 15);
+            }
+            assert_eq!(refused_run(65_536, &schedule, u32::MAX, 1), 15);
+            assert_eq!(refused_run(65_535, &schedule, 0, 1), 1);
+        }
+        // After the cycle numbers, and whether the record can come into force or not.
+        assert_eq!(refused_run(65_536, &[at(5, line), at(5, 0)], 0, 1), 2);
+        assert_eq!(refused_run(65_536, &[at(u32::MAX, line)], 0, 1), 15);
+    }
+}
+
+#[test]
+fn a_bit_that_is_no_line_is_refused_in_a_step() {
+    for line in 0..=0xFF {
+        // A stop, a reserved postbyte, a NOP, and the same past the limit of the clock.
+        for (code, reply) in [(&[0x00, 0x00], 4), (&[0xB7, 0x33], 5), (&[NOP, NOP], 0)] {
+            for (clock, reply) in [(3_999_999_900, reply), (3_999_999_901, 3)] {
+                let (mut cpu, mut memory) = (ready(CODE, 0xD0, clock), image(code));
+                let before = (cpu.clone(), memory.clone());
+                let outcome = step(&mut cpu, &mut memory, line);
+                let expected = if line > 0x3F { 15 } else { reply };
+                assert_eq!(outcome.reply.number(), expected, "{line:X}");
+                if expected != 0 {
+                    assert_eq!((outcome.cycles, &cpu), (0, &before.0));
+                    assert!(memory == before.1);
+                }
+            }
+        }
+        assert_eq!(step(&mut ready(CODE, 0, 0), &mut [NOP; 3], line).reply, Reply::WrongMemory);
+    }
 }
 
 #[test]

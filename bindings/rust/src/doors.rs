@@ -62,7 +62,7 @@ pub fn reset(state: &mut [u8], memory: &[u8]) -> u32 {
     unsafe { boundary::cpu12_reset(state.as_mut_ptr(), state.len(), memory.as_ptr(), memory.len()) }
 }
 
-/// One step under a line byte. Gives 100, 101, 103, 1, 3, 4, 5 or 0, tested in this order.
+/// One step under a line byte. Gives 100, 101, 103, 1, 15, 3, 4, 5 or 0, tested in this order.
 pub fn step(state: &mut [u8], memory: &mut [u8], line: u8) -> u32 {
     // As in `reset`.
     unsafe {
@@ -76,7 +76,7 @@ pub fn step(state: &mut [u8], memory: &mut [u8], line: u8) -> u32 {
     }
 }
 
-/// A run with a packed schedule and a budget. Gives 100, 101, 103, 102, 1, 2 or 3, tested in this order, or 4, 5 or 0.
+/// A run with a packed schedule and a budget. Gives 100, 101, 103, 102, 1, 2, 15 or 3, tested in this order, or 4, 5 or 0.
 pub fn run(state: &mut [u8], memory: &mut [u8], schedule: &[u8], budget: u32) -> u32 {
     // As in `reset`.
     unsafe {

@@ -16,6 +16,9 @@ pub enum Error {
     /// 5: a postbyte of the instruction is reserved: a TFR or EXG with register code 3, a loop with kind 6 or 7 or register code 2
     /// or 3, or an indexed postbyte whose address form the instruction does not have. The state is that before it.
     ReservedPostbyte,
+    /// 15: a line byte has bit 6 or 7 set, which are no [lines](crate::lines): that of a step, or that of any record of a schedule,
+    /// whether it would come into force or not. It is tested after 1 and 2, and before 3.
+    WrongLine,
     /// 100: the state record has another length.
     WrongLength,
     /// 101: the byte of the waiting flag is neither 0 nor 1.
@@ -30,12 +33,13 @@ pub enum Error {
 
 impl Error {
     /// Those that have a name.
-    const NAMED: [Error; 9] = [
+    const NAMED: [Error; 10] = [
         Error::WrongMemory,
         Error::WrongSchedule,
         Error::PastLimit,
         Error::Stopped,
         Error::ReservedPostbyte,
+        Error::WrongLine,
         Error::WrongLength,
         Error::WrongFlag,
         Error::WrongPacking,
@@ -50,6 +54,7 @@ impl Error {
             Error::PastLimit => 3,
             Error::Stopped => 4,
             Error::ReservedPostbyte => 5,
+            Error::WrongLine => 15,
             Error::WrongLength => 100,
             Error::WrongFlag => 101,
             Error::WrongPacking => 102,
@@ -78,6 +83,7 @@ impl fmt::Display for Error {
             Error::PastLimit => "the clock or the budget is past its limit",
             Error::Stopped => "the opcode is one that stops the machine",
             Error::ReservedPostbyte => "a postbyte of the instruction is reserved",
+            Error::WrongLine => "a line byte has bit 6 or 7 set, which are no lines",
             Error::WrongLength => "the state record has another length",
             Error::WrongFlag => "the byte of the waiting flag is neither 0 nor 1",
             Error::WrongPacking => "the schedule's bytes are not a whole number of records",

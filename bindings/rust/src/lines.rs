@@ -8,8 +8,9 @@
 //! | 3 | a device | `$FFEE` | I |
 //! | 4 | a device | `$FFEC` | I |
 //! | 5 | a device | `$FFEA` | I |
-//! | 6 | a device | `$FFE8` | I |
-//! | 7 | a device | `$FFE6` | I |
+//!
+//! Bits 6 and 7 are no lines. A byte that sets one is [`Error::WrongLine`](crate::Error::WrongLine), as a step's byte and in any record
+//! of a schedule: to leave the bit out of it would be another run than the one that was asked for.
 //!
 //! The bits are levels. At each boundary between two steps the machine looks at the byte that is in force there; a request counts
 //! only while its bit is in that byte, and nothing is remembered of a bit that has gone. Of the requests that are up and not masked,
@@ -26,8 +27,11 @@ pub const XIRQ: u8 = 0x01;
 /// IRQ, masked by I as the devices are.
 pub const IRQ: u8 = 0x02;
 
-/// The six device requests, from bit 2 to bit 7.
-pub const DEVICES: [u8; 6] = [0x04, 0x08, 0x10, 0x20, 0x40, 0x80];
+/// The four device requests, from bit 2 to bit 5.
+pub const DEVICES: [u8; 4] = [0x04, 0x08, 0x10, 0x20];
 
-/// Where the word lies that a request loads into PC, from bit 0 to bit 7.
-pub const VECTORS: [u16; 8] = [0xFFF4, 0xFFF2, 0xFFF0, 0xFFEE, 0xFFEC, 0xFFEA, 0xFFE8, 0xFFE6];
+/// All lines: a byte with a bit beside these is refused.
+pub const ALL: u8 = 0x3F;
+
+/// Where the word lies that a request loads into PC, from bit 0 to bit 5.
+pub const VECTORS: [u16; 6] = [0xFFF4, 0xFFF2, 0xFFF0, 0xFFEE, 0xFFEC, 0xFFEA];

@@ -70,7 +70,17 @@ impl Machine {
     }
 
     /// One step under a [line byte](crate::lines), and the cycles that it used: an instruction, the entry of a request, or one idle
-    /// cycle of a machine that waits.
+    /// cycle of a machine that waits. A byte with bit 6 or 7 set is [`Error::WrongLine`], and changes nothing.
+    ///
+    /// ```rust
+    /// use cpu12::{lines, Error, Machine, State};
+    ///
+    /// let mut memory = vec![0xA7; 65_536]; // NOP
+    /// let mut machine = Machine::new(State::default());
+    /// assert_eq!(machine.step(&mut memory, 0x40), Err(Error::WrongLine));
+    /// assert_eq!(machine, Machine::new(State::default()));
+    /// assert_eq!(machine.step(&mut memory, 0x40 & lines::ALL), Ok(1));
+    /// ```
     pub fn step(&mut self, memory: &mut [u8], line: u8) -> Result<u32, Error> {
         Error::check(doors::step(&mut self.record, memory, line))?;
         Ok(self.cycles())
@@ -78,7 +88,8 @@ impl Machine {
 
     /// Steps until the next one costs more than is left of the budget, and the cycles that they used. A machine that stops before that
     /// gives [`Error::Stopped`] or [`Error::ReservedPostbyte`]; then [`Machine::cycles`] has the cycles used. The budget may be
-    /// 100,000,000 and the clock come to 4,000,000,000: [`Replay`](crate::Replay) goes beyond both.
+    /// 100,000,000 and the clock come to 4,000,000,000: [`Replay`](crate::Replay) goes beyond both. A record whose line byte has bit 6 or
+    /// 7 set is [`Error::WrongLine`], wherever it stands.
     pub fn run(
         &mut self,
         memory: &mut [u8],

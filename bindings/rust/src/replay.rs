@@ -1,5 +1,5 @@
 use crate::schedule::Packed;
-use crate::{doors, Error, Machine, Record, State};
+use crate::{doors, lines, Error, Machine, Record, State};
 
 /// A record of a long schedule: from this cycle on, this line byte.
 #[derive(Clone, Copy, Debug, PartialEq, Eq)]
@@ -64,10 +64,14 @@ struct Leg {
 
 impl<'s> Replay<'s> {
     /// The machine with this state at this time, under this schedule. `time` stands in the place of the state's own clock, which is
-    /// not read. Cycles that do not strictly rise are [`Error::WrongSchedule`].
+    /// not read. Cycles that do not strictly rise are [`Error::WrongSchedule`]. After that test, a line byte with bit 6 or 7 set is
+    /// [`Error::WrongLine`], in whichever record: it is asked of the whole schedule here, so that no replay is refused half way.
     pub fn new(state: State, time: u64, schedule: &'s [LongRecord]) -> Result<Replay<'s>, Error> {
         if schedule.windows(2).any(|pair| pair[0].cycle >= pair[1].cycle) {
             return Err(Error::WrongSchedule);
+        }
+        if schedule.iter().any(|record| record.line & !lines::ALL != 0) {
+            return Err(Error::WrongLine);
         }
         Ok(Replay { machine: set_back(state), time, cycles: 0, schedule })
     }

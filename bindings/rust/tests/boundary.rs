@@ -170,7 +170,7 @@ fn unknown_numbers() {
     for number in (1..2_000).chain([u32::MAX]) {
         let error = Error::check(number).expect_err("it is not 0");
         assert_eq!(error.number(), number);
-        let named = (1..=5).contains(&number) || (100..=103).contains(&number);
+        let named = matches!(number, 1..=5 | 15 | 100..=103);
         assert_eq!(error == Error::Unknown(number), !named);
         assert!(!error.to_string().is_empty());
     }
@@ -183,7 +183,7 @@ fn request_lines() {
         let (_, mut memory) = at_4000(&[0xA7]);
         memory[usize::from(vector)..][..2].copy_from_slice(&[0x56, 0x78]);
         let mut machine = Machine::new(state_at(0x4000, 0));
-        assert_eq!(machine.step(&mut memory, 0xFF << bit), Ok(9));
+        assert_eq!(machine.step(&mut memory, lines::ALL & 0xFF << bit), Ok(9));
         assert_eq!(
             (machine.state().pc, machine.state().ccr),
             (0x5678, if xirq { 0x50 } else { 0x10 })
@@ -195,7 +195,83 @@ fn request_lines() {
         assert_eq!(machine.step(&mut memory, 1 << bit), Ok(9));
     }
     let all = lines::DEVICES.iter().fold(lines::XIRQ | lines::IRQ, |all, line| all | line);
-    assert_eq!(all, 0xFF);
+    assert_eq!((all, all.count_ones() as usize), (lines::ALL, lines::VECTORS.len()));
+}
+
+/// A step under this byte, and runs of which one record has it: the first of 64, the last, and one that no clock value comes to.
+/// A refusal leaves state and memory as they were, and 0 cycles used.
+fn numbers_under(line: u8, machine: &Machine, memory: &[u8], budget: u32) -> [u32; 4] {
+    let with_line_at = |place: u32| -> Vec<Record> {
+        let line_of = |i| if i == place { line } else { 0 };
+        (0..64).map(|i| Record { cycle: 50 + i, line: line_of(i) }).collect()
+    };
+    let never = vec![Record { cycle: u32::MAX, line }];
+    let runs = [with_line_at(0), with_line_at(63), never];
+    let kept = |done: &dyn Fn(&mut Machine, &mut [u8]) -> Result<u32, Error>| {
+        let (mut after, mut bytes) = (*machine, memory.to_vec());
+        let reply = number(done(&mut after, &mut bytes));
+        if reply != 0 {
+            assert_eq!((after.state(), after.cycles()), (machine.state(), 0));
+            assert!(bytes == memory, "a refusal changed the memory");
+        }
+        reply
+    };
+    let [first, last, never] = runs.map(|records| kept(&|m, bytes| m.run(bytes, &records, budget)));
+    [kept(&|m, bytes| m.step(bytes, line)), first, last, never]
+}
+
+/// Every line byte through the step and the run; and the place of reply 15 among the others.
+fn wrong_lines() {
+    // A machine that has used a cycle before, which a refusal sets to 0.
+    let (mut machine, mut memory) = at_4000(&[0xA7; 4]);
+    assert_eq!(machine.step(&mut memory, 0), Ok(1));
+    for line in 0..=0xFF {
+        let expected = if line & !lines::ALL != 0 { 15 } else { 0 };
+        assert_eq!(numbers_under(line, &machine, &memory, 2), [expected; 4], "{:X}", line);
+        let mut waiting = machine.state();
+        waiting.waiting = true;
+        assert_eq!(numbers_under(line, &Machine::new(waiting), &memory, 2), [expected; 4]);
+    }
+    for line in [0x40, 0x80, 0xC0, 0xFF] {
+        assert_eq!(numbers_under(line, &machine, &memory[1..], 2), [1; 4]);
+        // Before the limits of the budget and of the clock, and before 4 and 5.
+        assert_eq!(numbers_under(line, &machine, &memory, 100_000_001), [15; 4]);
+        let mut late = machine.state();
+        late.clock = u32::MAX;
+        assert_eq!(numbers_under(line, &Machine::new(late), &memory, 1), [15; 4]);
+        for code in [&[0x00][..], &[0xB7, 0x35]] {
+            let (machine, memory) = at_4000(code);
+            assert_eq!(numbers_under(line, &machine, &memory, 0), [15; 4]);
+        }
+        // After the cycle numbers and the number of the records.
+        let twice = [Record { cycle: 5, line }; 2];
+        assert_eq!({ machine }.run(&mut memory, &twice, 1), Err(Error::WrongSchedule));
+        let many: Vec<Record> = (0..65).map(|cycle| Record { cycle, line }).collect();
+        assert_eq!({ machine }.run(&mut memory, &many, 1), Err(Error::WrongSchedule));
+    }
+}
+
+/// Reply 15 by the bytes of a packed schedule, after the doors' own refusals.
+fn wrong_lines_by_bytes() {
+    let (machine, mut memory) = at_4000(&LDAA);
+    let packed: Vec<u8> = (0..64).flat_map(|i| [0, 0, 0, i, 0]).collect();
+    for place in 0..64 {
+        for bit in [0x40, 0x80] {
+            let mut schedule = packed.clone();
+            schedule[5 * place + 4] = bit;
+            assert_eq!(numbers(machine.record(), &memory, &schedule), (0, 0, 15));
+            assert_eq!(numbers(machine.record(), &[], &schedule), (1, 1, 1));
+            assert_eq!(numbers(machine.record(), &memory, &schedule[..319]), (0, 0, 102));
+        }
+    }
+    let mut ask = |state: &mut [u8]| doors::step(state, &mut memory, 0x40);
+    let mut record = *machine.record();
+    assert_eq!(ask(&mut record), 15);
+    assert_eq!(ask(&mut record[1..]), 100);
+    record[doors::STATE - 1] = 1;
+    assert_eq!(ask(&mut record), 103);
+    record[WAITING] = 2;
+    assert_eq!(ask(&mut record), 101);
 }
 
 /// The encodings that stop the machine, and no others of the two pages.
@@ -280,7 +356,7 @@ fn through_the_boundary(case: &Case, memory: &mut [u8]) -> Left {
 fn random_cases(count: u64, seed: u64) {
     let mut generator = Generator::new(Kind::Mixed, seed);
     let mut memories = Memories::default();
-    let mut met = [0u64; 6];
+    let mut met = [0u64; 16];
     for _ in 0..count {
         let case = generator.next_case();
         let mut ours = memories.lay_out(&case).to_vec();
@@ -291,7 +367,8 @@ fn random_cases(count: u64, seed: u64) {
         assert!(ours == theirs, "the memories differ after the case, seed {}: {}", seed, case);
         met[found.0 as usize] += 1;
     }
-    assert!(count < 1_000 || met.iter().all(|&times| times > 0), "replies met: {:?}", met);
+    let mut replies = machine::Reply::ALL.iter().map(|reply| usize::from(reply.number()));
+    assert!(count < 1_000 || replies.all(|reply| met[reply] > 0), "replies met: {:?}", met);
 }
 
 /// The program.
@@ -306,6 +383,8 @@ pub extern "C" fn main(_count: c_int, _words: *const *const c_char) -> c_int {
     kept_records();
     unknown_numbers();
     request_lines();
+    wrong_lines();
+    wrong_lines_by_bytes();
     stops();
     memory_lengths();
     random_cases(count, seed);

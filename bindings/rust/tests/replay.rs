@@ -17,9 +17,9 @@ use std::os::raw::{c_char, c_int};
 const PROGRAM: usize = 0x4000;
 const HANDLERS: usize = 0x5000;
 
-/// The vectors of the traps, of SWI, and of bits 0 to 7 of the line byte, each two bytes below the one before it.
+/// The vectors of the traps, of SWI, and of bits 0 to 5 of the line byte, each two bytes below the one before it.
 const FIRST_VECTOR: usize = 0xFFF8;
-const VECTORS: usize = 10;
+const VECTORS: usize = 2 + lines::VECTORS.len();
 
 /// The second emulator with a clock of 64 bits: its own is held at 0.
 struct OnePiece<'s> {
@@ -170,7 +170,7 @@ fn random_schedule(random: &mut Random, start: u64) -> Vec<LongRecord> {
             2 => lines::XIRQ,
             3 => lines::IRQ,
             4 => random.pick(&lines::DEVICES),
-            _ => random.byte(),
+            _ => random.byte() & lines::ALL,
         };
         records.push(LongRecord { cycle, line });
         let quick = bursts && index % 150 != 0;
@@ -257,7 +257,10 @@ fn beyond_one_budget() {
     assert_eq!((reply, replay.cycles(), replay.time()), (expected, first + rest, one_piece.time));
     assert_eq!(replay.state(), state_of(&one_piece.cpu));
     assert!(replayed == memory, "the memories differ after a long run");
-    assert!(memory[0x1100..0x110A].iter().any(|&count| count > 0), "no request was entered");
+    assert!(
+        memory[0x1100..0x1100 + VECTORS].iter().any(|&count| count > 0),
+        "no request was entered"
+    );
 }
 
 /// A state, as the second emulator has it, with the clock at 0.
@@ -301,11 +304,35 @@ fn refusals() {
     }
 }
 
+/// A line byte with bit 6 or 7, in every place of a schedule that is longer than a run's, before the time and far after it. That the
+/// cycles rise is asked first.
+fn wrong_lines() {
+    let refusal = |records: &[LongRecord], time| {
+        Replay::new(State::default(), time, records).map(|replay| replay.time())
+    };
+    for line in [0x40, 0x80, 0xC0, 0xFF] {
+        for place in 0..200 {
+            let line_of = |n| if n == place { line } else { lines::ALL };
+            let record = |n: u64| LongRecord { cycle: 1_000 * n, line: line_of(n) };
+            let mut records: Vec<LongRecord> = (0..200).map(record).collect();
+            for time in [0, 100_000, u64::MAX] {
+                assert_eq!(refusal(&records, time), Err(Error::WrongLine));
+            }
+            records[199].cycle = 0;
+            assert_eq!(refusal(&records, 0), Err(Error::WrongSchedule));
+        }
+    }
+    for line in 0..=lines::ALL {
+        assert_eq!(refusal(&[LongRecord { cycle: 5, line }], 7), Ok(7));
+    }
+}
+
 /// The program.
 #[no_mangle]
 pub extern "C" fn main(_count: c_int, _words: *const *const c_char) -> c_int {
     let (count, seed) = (asked("REPLAY_CASES", 400), asked("BOUNDARY_SEED", 1));
     refusals();
+    wrong_lines();
     a_request_at_a_stop();
     beyond_one_budget();
     let mut met = Met::default();

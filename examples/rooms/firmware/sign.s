@@ -304,8 +304,8 @@ stray:  bgnd
         bra     stray
 
 ; ---- The vectors ----
-        .org    0xFFE6
-        .word   stray, stray, stray, stray      ; 0xFFE6 to 0xFFEC: devices
+        .org    0xFFEA
+        .word   stray, stray                    ; 0xFFEA and 0xFFEC: devices
         .word   question                        ; 0xFFEE: bit 3 of the lines, a question lies in the mailbox
         .word   minute                          ; 0xFFF0: bit 2 of the lines, a minute has passed
         .word   stray                           ; 0xFFF2: IRQ
