@@ -1,6 +1,5 @@
 -- The replies and their numbers, and the machine's numbers. Assumes nothing.
-use Prim.Native.Nat.{ℕ, _≤_}
-use native.Mathlib.Omega.{arith}
+use Prim.Native.Nat.{ℕ}
 use mathlib.Core.Path.{_≡_, refl, sym, _∙_, ap}
 use lib.Dec.{eqb}
 use Rattle.word.specs.Word.{pick}
@@ -33,15 +32,6 @@ same-reply r r′ e = sym (back r) ∙ (ap replyOf e ∙ back r′)
 -- the reply with number 0 is Done
 pub number-zero : (r : Reply) → numberOf r ≡ 0 → r ≡ Done
 number-zero r e = same-reply r Done e
-
-pub number-most : (r : Reply) → numberOf r ≤ 15
-number-most Done = omega arith
-number-most WrongMemory = omega arith
-number-most WrongSchedule = omega arith
-number-most PastLimit = omega arith
-number-most Stopped = omega arith
-number-most ReservedPostbyte = omega arith
-number-most WrongLine = omega arith
 
 pub in-numbers : InNumbers
 in-numbers = record { vectors = refl; costs = refl; limits = refl }
