@@ -1,4 +1,5 @@
--- The warning is never late (the third demand). Proved under the same names in proofs/Warning.antt.
+-- The warning is never late (the third demand). Proved under the same names in proofs/Warning.antt, and `NoBadLineInForce` in
+-- proofs/BadLines.antt.
 use Prim.Native.Nat.{ℕ, suc, _+_, _<_, _≤_}
 use mathlib.Core.Path.{_≡_}
 use mathlib.Core.Bool.{true, false}
