@@ -1,0 +1,4 @@
+pub mod Bytes
+pub mod Pages
+pub mod OneLine
+pub mod AllLines

@@ -1,0 +1,72 @@
+// Reads an old schedule from standard input and prints the new one: docs/MIGRATE.md has the form of both. The lines 6 and 7 are withdrawn:
+// their bits are cleared, and records that then repeat the line byte before them are removed.
+mod page;
+mod reading;
+
+use machine::Machine;
+use page::Page;
+use reading::Lines;
+use reading::Reading;
+ghost use mathlib.Core.Path.{_≡_};
+ghost use Rattle.migrate.specs.Migrated.{migrated};
+ghost use Rattle.migrate.specs.Reading.{finished};
+ghost use Rattle.migrate.specs.Page.{pageText, answerOf};
+
+// What is printed for the lines of a text.
+fn answer(done: Lines) -> Page
+    ensures { λ r. ⌜ pageText r ≡ answerOf done ⌝ }
+{
+    let t = done.table;
+    let n = table::held(t.count);
+    let cycles = t.cycles;
+    let lines = t.lines;
+    let good = schedule::accepted(&cycles[..n], &lines[..n], Machine::RECORDS);
+    if done.good & good {
+        return page::renewed(&cycles[..n], &lines[..n]);
+    }
+    page::bad()
+}
+
+// What is printed for a text.
+fn migrate(text: &[u8]) -> Page
+    ensures { λ r. ⌜ pageText r ≡ migrated (now (text .entry)) ⌝ }
+{
+    let s = reading::read(reading::begin(), text);
+    answer(reading::finish(s))
+}
+
+// Whether the input goes on, and what is read so far.
+struct Chunk {
+    more: bool,
+    reading: Reading,
+}
+
+fn read_more(s: Reading) -> Chunk {
+    let mut chunk = io::buffer();
+    let got = libc::read(0, &mut chunk);
+    let n = io::count(got, &chunk);
+    Chunk {
+        more: got > 0,
+        reading: reading::read(s, &chunk[..n]),
+    }
+}
+
+// Reads to the end of the input. A proved loop has to end, and nothing says that the input does: it counts down from a number that no
+// run uses up.
+fn read_all() -> Reading {
+    let mut s = reading::begin();
+    let mut reads = u64::MAX;
+    while reads > 0 {
+        let chunk = read_more(s);
+        s = chunk.reading;
+        if !chunk.more {
+            return s;
+        }
+        reads -= 1;
+    }
+    s
+}
+
+fn main() {
+    answer(reading::finish(read_all())).print();
+}
