@@ -1,7 +1,7 @@
 -- A text read byte by byte is its lines read one after another. On the definitions alone. Assumes nothing.
-use Prim.Native.Nat.{ℕ}
+use Prim.Native.Nat.{ℕ, _+_, _*_, _%_}
 use mathlib.Core.Path.{_≡_, refl, sym, _∙_, ap}
-use mathlib.Core.Bool.{Bool, true, false, _&&_, and-true, and-false}
+use mathlib.Core.Bool.{Bool, true, false, _&&_, and-true, and-false, false≢true}
 use mathlib.Core.List.{List, [], _∷_, map}
 use lib.Dec.{eqb, ltb, leb}
 use Rattle.word.specs.Word.{pick}
@@ -12,20 +12,25 @@ use Rattle.migrate.specs.declared.reading.Part.{Part}
 use Rattle.migrate.specs.declared.reading.Part.the-variants.{Nothing, Cycle, Space, Digit, Whole, Wrong}
 use Rattle.migrate.specs.declared.reading.Lines.{Lines}
 use Rattle.migrate.specs.declared.reading.Reading.{Reading}
-use Rattle.migrate.specs.Format.{before, textLines, goodLine, goodLines, recordOf}
-use Rattle.migrate.specs.Reading.{grown, isNothing, linesAre, withLine, readingIs, withByte, readOn, finished}
+use Rattle.migrate.specs.Format.{digitValue, isDecimal, isHex, lastCycle, before, textLines, goodLine, goodLines, recordOf}
+use Rattle.migrate.specs.Reading.{longer, grown, isNothing, linesAre, withLine, readingIs, withByte, readOn, finished}
 use Rattle.migrate.proofs.OneLine.{scanned, one-line}
 
 -- a part with a byte more is not nothing
 abbrev Something : Part → Type 0
 Something p = isNothing p ≡ false
 
+some-longer : (cycle d : ℕ) → Something (longer cycle d)
+some-longer cycle d = both Something (leb (cycle * 10 + d) lastCycle) (Cycle (cycle * 10 + d)) Wrong refl refl
+
 some-more : (p : Part) (b : ℕ) → Something (grown p b)
 unfolding grown
-some-more Nothing b = both Something _ _ _ (both Something _ _ _ refl refl) refl
-some-more (Cycle cycle) b = both Something _ _ _ (both Something _ _ _ refl refl) (both Something _ _ _ refl refl)
-some-more (Space cycle) b = both Something _ _ _ refl refl
-some-more (Digit cycle first) b = both Something _ _ _ refl refl
+some-more Nothing b = both Something (isDecimal b) (longer 0 (digitValue b)) Wrong (some-longer 0 (digitValue b)) refl
+some-more (Cycle cycle) b =
+    both Something (isDecimal b) (longer cycle (digitValue b)) (pick (eqb b 32) (Space cycle) Wrong) (some-longer cycle (digitValue b))
+    (both Something (eqb b 32) (Space cycle) Wrong refl refl)
+some-more (Space cycle) b = both Something (isHex b) (Digit cycle (digitValue b)) Wrong refl refl
+some-more (Digit cycle first) b = both Something (isHex b) (Whole cycle (first % 16 * 16 + digitValue b)) Wrong refl refl
 some-more (Whole cycle line) b = refl
 some-more Wrong b = refl
 
@@ -72,8 +77,15 @@ pub record Gives (done : Lines) (ls : List (List ℕ)) (all : Lines) : Type 0 wh
 pub gives : (done : Lines) (ls : List (List ℕ)) → Gives done ls (linesRead done ls)
 unfolding linesRead goodLines
 gives done [] = record { good = sym (and-true (done .good)); table = λ _. refl }
-gives done (l ∷ ls) = rw (one-line done l) (go (goodLine l) (λ done′. gives done′ ls))
+gives done (l ∷ ls) =
+    let both-are = go (goodLine l) (λ done′. gives done′ ls) in
+    rw (one-line done l) (record { good = both-are .0; table = both-are .1 })
   where
     go : (fine : Bool) → ((done′ : Lines) → Gives done′ ls (linesRead done′ ls))
-        → Gives′ fine (linesRead (pick fine (linesAre (done .good) (withRecord (done .table) (recordOf l))) (linesAre false (done .table))) ls)
-    go = ?
+        → (linesRead (pick fine (linesAre (done .good) (withRecord (done .table) (recordOf l))) (linesAre false (done .table))) ls .good ≡ done .good && (fine && goodLines ls))
+        × (fine && goodLines ls ≡ true
+        → linesRead (pick fine (linesAre (done .good) (withRecord (done .table) (recordOf l))) (linesAre false (done .table))) ls .table
+        ≡ gathered (withRecord (done .table) (recordOf l)) (map recordOf ls))
+    go true onward = let next = onward (linesAre (done .good) (withRecord (done .table) (recordOf l))) in (next .good, next .table)
+    go false onward =
+        (onward (linesAre false (done .table)) .good ∙ sym (and-false (done .good)), λ e. absurd (false≢true e))

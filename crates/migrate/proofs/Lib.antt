@@ -2,3 +2,5 @@ pub mod Bytes
 pub mod Pages
 pub mod OneLine
 pub mod AllLines
+pub mod Renewed
+pub mod Whole

@@ -58,5 +58,5 @@ migratedLines ls =
     (renewed (map recordOf ls))
     (ascii "bad\n")
 
-pub migrated : List ℕ → List ℕ
+unfoldable pub migrated : List ℕ → List ℕ
 migrated text = migratedLines (textLines text)

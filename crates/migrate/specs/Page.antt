@@ -54,9 +54,11 @@ withKept p last [] = p
 withKept p last (r ∷ rs) =
     withKept (withRecord p last (recordIs (r .cycle) (clearedByte (r .line)))) (clearedByte (r .line)) rs
 
--- what is printed for finished lines
+-- what is printed for two lists of numbers
+abbrev pub answerTo : Bool → List ℕ → List ℕ → List ℕ
+answerTo good cycles lines =
+    pick (good && accepted recordLimit cycles lines) (renewed (paired cycles lines)) (ascii "bad\n")
+
+-- and for finished lines
 abbrev pub answerOf : Lines → List ℕ
-answerOf done =
-    pick (done .good && accepted recordLimit (tableCycles (done .table)) (tableLines (done .table)))
-    (renewed (paired (tableCycles (done .table)) (tableLines (done .table))))
-    (ascii "bad\n")
+answerOf done = answerTo (done .good) (tableCycles (done .table)) (tableLines (done .table))

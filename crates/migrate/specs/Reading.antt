@@ -2,7 +2,8 @@
 -- it reads this way is what specs/Format.antt says, by the laws of proofs/.
 use Prim.Native.Nat.{ℕ, _+_, _*_, _%_}
 use mathlib.Core.Bool.{Bool, true, false, _&&_}
-use mathlib.Core.List.{List, [], _∷_}
+use mathlib.Core.Path.{_≡_}
+use mathlib.Core.List.{List, [], _∷_, _++_}
 use lib.Dec.{leb, ltb, eqb}
 use Rattle.word.specs.Word.{pick}
 use Rattle.table.specs.declared.Record.{Record}
@@ -86,6 +87,10 @@ withByte done part b = pick (eqb b 10) (readingIs (withLine done part) Nothing) 
 unfoldable pub readOn : Reading → List ℕ → Reading
 readOn s [] = s
 readOn s (b ∷ bs) = readOn (withByte (s .done) (s .part) b) bs
+
+-- A text may be read in parts, cut anywhere. Proved under the same name in proofs/Whole.antt.
+abbrev pub ReadInParts : Type 0
+ReadInParts = (s : Reading) (a b : List ℕ) → readOn s (a ++ b) ≡ readOn (readOn s a) b
 
 -- the text ends, and its last line, if a part of it is read
 abbrev pub finished : Reading → Lines

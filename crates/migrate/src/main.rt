@@ -10,9 +10,18 @@ use reading::Reading;
 ghost use mathlib.Core.Path.{_≡_};
 ghost use Rattle.migrate.specs.Migrated.{migrated};
 ghost use Rattle.migrate.specs.Reading.{finished};
-ghost use Rattle.migrate.specs.Page.{pageText, answerOf};
+ghost use Rattle.migrate.specs.Page.{pageText, answerTo, answerOf};
 
-// What is printed for the lines of a text.
+// What is printed for the records of good lines, or where a line is not good.
+fn answer_to(good: bool, cycles: &[u32], lines: &[u8]) -> Page
+    ensures { λ r. ⌜ pageText r ≡ answerTo good (now (cycles .entry)) (now (lines .entry)) ⌝ }
+{
+    if good & schedule::accepted(cycles, lines, Machine::RECORDS) {
+        return page::renewed(cycles, lines);
+    }
+    page::bad()
+}
+
 fn answer(done: Lines) -> Page
     ensures { λ r. ⌜ pageText r ≡ answerOf done ⌝ }
 {
@@ -20,11 +29,7 @@ fn answer(done: Lines) -> Page
     let n = table::held(t.count);
     let cycles = t.cycles;
     let lines = t.lines;
-    let good = schedule::accepted(&cycles[..n], &lines[..n], Machine::RECORDS);
-    if done.good & good {
-        return page::renewed(&cycles[..n], &lines[..n]);
-    }
-    page::bad()
+    answer_to(done.good, &cycles[..n], &lines[..n])
 }
 
 // What is printed for a text.

@@ -22,13 +22,14 @@ loop-again c =
     let line = c .before .cleared in
     let turn = c .before .before .before .before .loop in
     let start = c .before .before .before .before .before .before .before .before in
-    let inside = c .before .before .before .loop-test .taken in
-    (omega arith,
-    one-kept (turn .page) (c .if1 .page) _ (turn .last) (line .result) _ _ (turn .i) inside (omega (arith, start .pre)) (line .ensures) (turn .inv .1)
-    (⊎-elim
-    (λ w. put-kept (turn .page) (c .if1 .page) _ (turn .last) _ (line .result) (w .0 .taken) (w .2 .ensures) (w .4 ∙ w .3 .ensures))
-    (λ w. left-out (turn .page) (c .if1 .page) (turn .last) _ (line .result) (w .0 .left) (w .1))
-    (c .if1 .came)))
+    let inside = c .before .before .before .loop-test .taken in (
+      omega arith,
+      one-kept (turn .page) (c .if1 .page) _ (turn .last) (line .result) _ _ (turn .i) inside (omega (arith, start .pre)) (line .ensures) (turn .inv .1)
+          (⊎-elim
+          (λ w. put-kept (turn .page) (c .if1 .page) _ (turn .last) _ (line .result) (w .0 .taken) (w .2 .ensures) (w .4 ∙ w .3 .ensures))
+          (λ w. left-out (turn .page) (c .if1 .page) (turn .last) _ (line .result) (w .0 .left) (w .1))
+          (c .if1 .came)),
+    )
 
 returns : tie.Need-returns Inv-loop μ-loop
 returns c =

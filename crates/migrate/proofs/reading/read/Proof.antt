@@ -21,13 +21,14 @@ loop-again : tie.Need-loop-again Inv-loop μ-loop
 loop-again c =
     let turn = c .before .before .before .loop in
     let inside = c .before .before .loop-test .taken in
-    let next = readingIs (c .if1 .done) (c .if1 .part) in
-    (omega arith,
-    one-read (readingIs (turn .done) (turn .part)) next _ _ (turn .i) inside (turn .inv .1)
-    (⊎-elim
-    (λ w. line-ends (turn .done) (turn .part) _ _ _ (w .0 .taken) (w .2 ∙ w .1 .ensures) (w .3))
-    (λ w. line-goes-on (turn .done) (turn .part) _ _ _ (w .0 .left) (w .2) (w .3 ∙ w .1 .ensures))
-    (c .if1 .came)))
+    let next = readingIs (c .if1 .done) (c .if1 .part) in (
+      omega arith,
+      one-read (readingIs (turn .done) (turn .part)) next _ _ (turn .i) inside (turn .inv .1)
+          (⊎-elim
+          (λ w. line-ends (turn .done) (turn .part) _ _ _ (w .0 .taken) (w .2 ∙ w .1 .ensures) (w .3))
+          (λ w. line-goes-on (turn .done) (turn .part) _ _ _ (w .0 .left) (w .2) (w .3 ∙ w .1 .ensures))
+          (c .if1 .came)),
+    )
 
 returns : tie.Need-returns Inv-loop μ-loop
 returns c =
