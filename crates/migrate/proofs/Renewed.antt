@@ -1,24 +1,25 @@
 -- The page of a schedule is its new text. On the definitions alone. Assumes nothing.
 use Prim.Native.Nat.{ℕ, zero, suc, _+_, _-_, _/_, _%_, _^_, _<_, _≤_}
 use native.Mathlib.Omega.{arith}
+use native.Mathlib.Nat.{mod-lt, mod-eq-of-lt}
 use native.Mathlib.Numerals.{add-one}
-use mathlib.Core.Path.{_≡_, refl, sym, _∙_, ap}
+use mathlib.Core.Path.{_≡_, refl, sym, _∙_, ap, subst}
 use mathlib.Core.Bool.{Bool, true, false}
 use mathlib.Core.List.{List, [], _∷_, _++_, append-assoc, append-nil, map}
 use lib.Dec.{ltb, eqb}
 use lib.ListN.{length, take, length-append, length-set, length-map}
 use lib.Seq.{take-suc-set}
-use borrow.Author.Tests.{lt-ltb}
+use borrow.Author.Tests.{lt-ltb, eqb-true, eq-eqb}
 use Rattle.word.specs.Word.{pick}
 use Rattle.machine.specs.Names.{recordLimit}
 use Rattle.text.specs.declared.Text.{Text}
-use Rattle.text.specs.Text.{blank, Followed, written, lastDigits, digitOf, numeral}
+use Rattle.text.specs.Text.{ascii, blank, Followed, written, lastDigits, digitOf, numeral}
 use Rattle.text.proofs.Laws.{all-written}
 use Rattle.text.proofs.Digits.{digits-at-most}
 use Rattle.table.specs.declared.Record.{Record}
 use Rattle.table.specs.Records.{recordIs, cyclesOf, linesOf, room}
 use Rattle.migrate.specs.declared.page.Page.{Page}
-use Rattle.migrate.specs.Migrated.{clearedByte, cleared, alteredCount, keptAfter, kept, recordLine, printed, countsLine, renewed}
+use Rattle.migrate.specs.Migrated.{clearedByte, cleared, alteredCount, keptAfter, kept, recordLine, printed, countsLine, renewed, RenewedOnce}
 use Rattle.migrate.specs.Page.{joined, pageText, emptyPage, withText, textOf, paired, withRecord, withKept}
 
 -- a text of few bytes
@@ -177,3 +178,36 @@ pub one-line-page : (p q : Page) (t : Text) (bs : List ℕ) → length bs ≤ 80
 unfolding emptyPage joined
 one-line-page p q t bs short empty text put =
     rw (put, text, empty) (one-put emptyPage bs 0 short (record { long = refl; within = omega arith }) .text)
+
+-- what is cleared stays so
+clear-again : (b : ℕ) → clearedByte (clearedByte b) ≡ clearedByte b
+clear-again b = mod-eq-of-lt (mod-lt b (omega arith))
+
+record Settled (last : ℕ) (rs : List Record) : Type 0 where
+  same : keptAfter last (map cleared rs) ≡ rs
+  unaltered : alteredCount (linesOf rs) ≡ 0
+
+settled : (last : ℕ) (rs : List Record) → Settled last (keptAfter last (map cleared rs))
+unfolding keptAfter alteredCount
+settled last [] = record { same = refl; unaltered = refl }
+settled last (r ∷ rs) = go (eqb (clearedByte (r .line)) last) refl (settled (clearedByte (r .line)) rs)
+  where
+    go :
+        (repeats : Bool) → eqb (clearedByte (r .line)) last ≡ repeats → Settled (clearedByte (r .line)) (keptAfter (clearedByte (r .line)) (map cleared rs)) →
+        Settled last (pick repeats (keptAfter (clearedByte (r .line)) (map cleared rs)) (cleared r ∷ keptAfter (clearedByte (r .line)) (map cleared rs)))
+    go true e rest =
+        subst (λ (n : ℕ). Settled n (keptAfter (clearedByte (r .line)) (map cleared rs))) (eqb-true (clearedByte (r .line)) last e) rest
+    go false e rest =
+        record {
+          same = rw (clear-again (r .line), e, rest .same);
+          unaltered = rw (clear-again (r .line), eq-eqb (clearedByte (r .line)) (clearedByte (r .line)) refl, rest .unaltered);
+        }
+
+stays : (rs : List Record) → Settled 0 rs → renewed rs ≡ printed rs ++ ascii "0 0\n"
+unfolding lastDigits
+stays rs s =
+    let none : length rs - length rs ≡ 0 = omega arith in
+    rw (s .same, s .unaltered, none)
+
+pub renewed-once : RenewedOnce
+renewed-once rs = stays (kept (map cleared rs)) (settled 0 rs)

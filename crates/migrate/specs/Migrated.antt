@@ -1,6 +1,7 @@
 -- What the program prints for a text (docs/MIGRATE.md): the records with the bits 6 and 7 of their line bytes cleared, without those
 -- that then repeat the byte before them, and how many were altered and removed. For other text, or a schedule that reply 2 refuses: bad.
 use Prim.Native.Nat.{ℕ, suc, _-_, _%_}
+use mathlib.Core.Path.{_≡_}
 use mathlib.Core.Bool.{Bool, _&&_}
 use mathlib.Core.List.{List, [], _∷_, _++_, map}
 use lib.Dec.{eqb}
@@ -60,3 +61,8 @@ migratedLines ls =
 
 unfoldable pub migrated : List ℕ → List ℕ
 migrated text = migratedLines (textLines text)
+
+-- A new schedule is not renewed once more: none of its records is altered or removed. Proved under the same name in proofs/Renewed.antt.
+abbrev pub RenewedOnce : Type 0
+RenewedOnce =
+    (rs : List Record) → renewed (kept (map cleared rs)) ≡ printed (kept (map cleared rs)) ++ ascii "0 0\n"
