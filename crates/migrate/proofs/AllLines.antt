@@ -1,19 +1,17 @@
 -- A text read byte by byte is its lines read one after another. On the definitions alone. Assumes nothing.
 use Prim.Native.Nat.{ℕ, _+_, _*_, _%_}
-use mathlib.Core.Path.{_≡_, refl, sym, _∙_, ap}
+use mathlib.Core.Path.{_≡_, refl, sym, _∙_}
 use mathlib.Core.Bool.{Bool, true, false, _&&_, and-true, and-false, false≢true}
 use mathlib.Core.List.{List, [], _∷_, map}
-use lib.Dec.{eqb, ltb, leb}
+use lib.Dec.{eqb, leb}
 use Rattle.word.specs.Word.{pick}
 use Rattle.word.proofs.Laws.{both}
-use Rattle.table.specs.declared.Table.{Table}
 use Rattle.table.specs.Records.{gathered, withRecord}
 use Rattle.migrate.specs.declared.reading.Part.{Part}
 use Rattle.migrate.specs.declared.reading.Part.the-variants.{Nothing, Cycle, Space, Digit, Whole, Wrong}
 use Rattle.migrate.specs.declared.reading.Lines.{Lines}
-use Rattle.migrate.specs.declared.reading.Reading.{Reading}
 use Rattle.migrate.specs.Format.{digitValue, isDecimal, isHex, lastCycle, before, textLines, goodLine, goodLines, recordOf}
-use Rattle.migrate.specs.Reading.{longer, grown, isNothing, linesAre, withLine, readingIs, withByte, readOn, finished}
+use Rattle.migrate.specs.Reading.{longer, grown, isNothing, linesAre, withLine, readingIs, readOn, finished}
 use Rattle.migrate.proofs.OneLine.{scanned, one-line}
 
 -- a part with a byte more is not nothing

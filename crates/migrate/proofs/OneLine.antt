@@ -1,11 +1,11 @@
 -- A line read byte by byte is whole where it is a good one, and then it holds its record. On the definitions alone. Assumes nothing.
-use Prim.Native.Nat.{ℕ, suc, _+_, _*_, _%_, _<_, _≤_}
+use Prim.Native.Nat.{ℕ, _+_, _*_, _<_, _≤_}
 use native.Mathlib.Omega.{arith}
 use native.Mathlib.Nat.{mod-eq-of-lt}
-use mathlib.Core.Path.{_≡_, refl, sym, _∙_, ap}
+use mathlib.Core.Path.{_≡_, refl, sym}
 use mathlib.Core.Bool.{Bool, true, false, _&&_, and-true, and-false, false≢true}
 use mathlib.Core.List.{List, [], _∷_}
-use lib.Dec.{leb, ltb, eqb}
+use lib.Dec.{leb, eqb}
 use lib.ListN.{length}
 use borrow.Author.Tests.{ltb-true, leb-true, leb-false, le-leb, lt-leb, ne-eqb}
 use Rattle.word.specs.Word.{pick}
@@ -14,13 +14,22 @@ use Rattle.table.specs.Records.{recordIs, withRecord}
 use Rattle.migrate.specs.declared.reading.Part.{Part}
 use Rattle.migrate.specs.declared.reading.Part.the-variants.{Nothing, Cycle, Space, Digit, Whole, Wrong}
 use Rattle.migrate.specs.declared.reading.Lines.{Lines}
-use Rattle.migrate.specs.Format.{digitValue, isDecimal, isHex, front, rest, some, spelledAfter, lastCycle, isEnd, endByte, goodLine, recordOf}
-use Rattle.migrate.specs.Reading.{longer, grownBy, grown, isWhole, linesAre, withLine}
+use Rattle.migrate.specs.Format.{digitValue, isDecimal, isHex, front, rest, notEmpty, spelledAfter, lastCycle, isEnd, endByte, goodLine, recordOf}
+use Rattle.migrate.specs.Reading.{longer, grown, linesAre, withLine}
 
 -- the part of a line with these bytes more
 unfoldable pub scanned : Part → List ℕ → Part
 scanned p [] = p
 scanned p (b ∷ bs) = scanned (grown p b) bs
+
+-- whether a part is a whole line
+abbrev isWhole : Part → Bool
+isWhole Nothing = false
+isWhole (Cycle cycle) = false
+isWhole (Space cycle) = false
+isWhole (Digit cycle first) = false
+isWhole (Whole cycle line) = true
+isWhole Wrong = false
 
 -- what a part has to be, where its line is good with this record or is not
 abbrev Fits : Bool → Record → Part → Type 0
@@ -110,7 +119,7 @@ scans [] = refl
 scans (b ∷ bs) = go (isDecimal b)
   where
     go : (decimal : Bool)
-        → Fits (some (pick decimal (b ∷ front bs) []) && (isEnd (pick decimal (rest bs) (b ∷ bs)) && leb (spelledAfter 0 (pick decimal (b ∷ front bs) [])) lastCycle))
+        → Fits (notEmpty (pick decimal (b ∷ front bs) []) && (isEnd (pick decimal (rest bs) (b ∷ bs)) && leb (spelledAfter 0 (pick decimal (b ∷ front bs) [])) lastCycle))
         (recordIs (spelledAfter 0 (pick decimal (b ∷ front bs) [])) (endByte (pick decimal (rest bs) (b ∷ bs))))
         (scanned (pick decimal (longer 0 (digitValue b)) Wrong) bs)
     go true = one-digit (0 * 10 + digitValue b) bs (leb (0 * 10 + digitValue b) lastCycle) refl (counts (0 * 10 + digitValue b) bs)

@@ -1,5 +1,5 @@
 -- The page of a schedule is its new text. On the definitions alone. Assumes nothing.
-use Prim.Native.Nat.{ℕ, zero, suc, _+_, _-_, _/_, _%_, _^_, _<_, _≤_}
+use Prim.Native.Nat.{ℕ, zero, suc, _+_, _-_, _/_, _%_, _<_, _≤_}
 use native.Mathlib.Omega.{arith}
 use native.Mathlib.Nat.{mod-lt, mod-eq-of-lt}
 use native.Mathlib.Numerals.{add-one}
@@ -13,14 +13,14 @@ use borrow.Author.Tests.{lt-ltb, eqb-true, eq-eqb}
 use Rattle.word.specs.Word.{pick}
 use Rattle.machine.specs.Names.{recordLimit}
 use Rattle.text.specs.declared.Text.{Text}
-use Rattle.text.specs.Text.{ascii, blank, Followed, written, lastDigits, digitOf, numeral}
+use Rattle.text.specs.Text.{ascii, blank, written, lastDigits, digitOf, numeral}
 use Rattle.text.proofs.Laws.{all-written}
 use Rattle.text.proofs.Digits.{digits-at-most}
 use Rattle.table.specs.declared.Record.{Record}
-use Rattle.table.specs.Records.{recordIs, cyclesOf, linesOf, room}
+use Rattle.table.specs.Records.{cyclesOf, linesOf, room}
 use Rattle.migrate.specs.declared.page.Page.{Page}
 use Rattle.migrate.specs.Migrated.{clearedByte, cleared, alteredCount, keptAfter, kept, recordLine, printed, countsLine, renewed, RenewedOnce}
-use Rattle.migrate.specs.Page.{joined, pageText, emptyPage, withText, textOf, paired, withRecord, withKept}
+use Rattle.migrate.specs.Page.{joined, pageText, emptyPage, withText, textOf, paired, withKept}
 
 -- a text of few bytes
 text-is : (bs : List ℕ) → length bs ≤ 80 → written (textOf bs) ≡ bs

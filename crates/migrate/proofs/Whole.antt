@@ -2,9 +2,9 @@
 use Prim.Native.Nat.{ℕ, _<_, _≤_}
 use native.Mathlib.Omega.{arith}
 use native.Mathlib.Decide.{decLe}
-use mathlib.Core.Path.{_≡_, refl, sym, _∙_, ap}
+use mathlib.Core.Path.{_≡_, refl, sym, _∙_}
 use mathlib.Core.Bool.{Bool, true, false, _&&_}
-use mathlib.Core.List.{List, [], _∷_, _++_, map}
+use mathlib.Core.List.{List, [], _∷_, map}
 use lib.ListN.{length, take, length-take, length-map}
 use lib.Seq.{take-all}
 use Rattle.word.specs.Word.{pick}
@@ -16,7 +16,6 @@ use Rattle.table.specs.Records.{cyclesOf, linesOf, room, tableCycles, tableLine
 use Rattle.table.proofs.Laws.{holds-first}
 use Rattle.text.specs.Text.{ascii}
 use Rattle.migrate.specs.declared.reading.Lines.{Lines}
-use Rattle.migrate.specs.declared.reading.Reading.{Reading}
 use Rattle.migrate.specs.Format.{textLines, goodLines, recordOf}
 use Rattle.migrate.specs.Migrated.{renewed, migratedLines, migrated}
 use Rattle.migrate.specs.Reading.{linesAre, begun, withByte, readOn, ReadInParts, finished}

@@ -53,9 +53,9 @@ spelledAfter n (b ∷ bs) = spelledAfter (n * 10 + digitValue b) bs
 abbrev pub lastCycle : ℕ
 lastCycle = 4294967295
 
-abbrev pub some : List ℕ → Bool
-some [] = false
-some (b ∷ bs) = true
+abbrev pub notEmpty : List ℕ → Bool
+notEmpty [] = false
+notEmpty (b ∷ bs) = true
 
 -- three bytes, a space and two hexadecimal digits
 abbrev pub isEnd : List ℕ → Bool
@@ -67,7 +67,7 @@ endByte l = digitValue (getD l 1 0) * 16 + digitValue (getD l 2 0)
 
 -- a good line: decimal digits that spell a cycle number, a space, and two hexadecimal digits
 abbrev pub goodLine : List ℕ → Bool
-goodLine l = some (front l) && (isEnd (rest l) && leb (spelledAfter 0 (front l)) lastCycle)
+goodLine l = notEmpty (front l) && (isEnd (rest l) && leb (spelledAfter 0 (front l)) lastCycle)
 
 -- its record
 abbrev pub recordOf : List ℕ → Record

@@ -2,7 +2,7 @@
 -- that then repeat the byte before them, and how many were altered and removed. For other text, or a schedule that reply 2 refuses: bad.
 use Prim.Native.Nat.{ℕ, suc, _-_, _%_}
 use mathlib.Core.Path.{_≡_}
-use mathlib.Core.Bool.{Bool, _&&_}
+use mathlib.Core.Bool.{_&&_}
 use mathlib.Core.List.{List, [], _∷_, _++_, map}
 use lib.Dec.{eqb}
 use lib.ListN.{length}

@@ -1,20 +1,18 @@
 -- Inner definitions: the page that the program prints, and how its lines are put on it.
-use Prim.Native.Nat.{ℕ, _+_, _-_}
+use Prim.Native.Nat.{ℕ, _+_}
 use mathlib.Core.Bool.{Bool, _&&_}
-use mathlib.Core.List.{List, [], _∷_, _++_, map}
+use mathlib.Core.List.{List, [], _∷_, _++_}
 use lib.Dec.{ltb, eqb}
 use lib.ListN.{length, take, set, replicate}
 use Rattle.word.specs.Word.{pick}
 use Rattle.schedule.specs.Schedule.{accepted}
 use Rattle.machine.specs.Names.{recordLimit}
 use Rattle.table.specs.declared.Record.{Record}
-use Rattle.table.specs.declared.Table.{Table}
 use Rattle.table.specs.Records.{recordIs, room, tableCycles, tableLines}
 use Rattle.text.specs.declared.Text.{Text}
 use Rattle.text.specs.Text.{ascii, blank, written, withBytes}
 use Rattle.migrate.specs.declared.page.Page.{Page}
 use Rattle.migrate.specs.declared.reading.Lines.{Lines}
-use Rattle.migrate.specs.declared.reading.Reading.{Reading}
 use Rattle.migrate.specs.Migrated.{clearedByte, recordLine, renewed}
 use Rattle.migrate.specs.Reading.{finished}
 
@@ -45,14 +43,14 @@ paired (c ∷ cs) [] = []
 paired (c ∷ cs) (l ∷ ls) = recordIs c l ∷ paired cs ls
 
 -- a page with the line of a record that does not repeat the byte before it
-abbrev pub withRecord : Page → ℕ → Record → Page
-withRecord p last r = pick (eqb (r .line) last) p (withText p (textOf (recordLine r)))
+abbrev pub withRecordLine : Page → ℕ → Record → Page
+withRecordLine p last r = pick (eqb (r .line) last) p (withText p (textOf (recordLine r)))
 
 -- and with those of the cleared records of a list
 unfoldable pub withKept : Page → ℕ → List Record → Page
 withKept p last [] = p
 withKept p last (r ∷ rs) =
-    withKept (withRecord p last (recordIs (r .cycle) (clearedByte (r .line)))) (clearedByte (r .line)) rs
+    withKept (withRecordLine p last (recordIs (r .cycle) (clearedByte (r .line)))) (clearedByte (r .line)) rs
 
 -- what is printed for two lists of numbers
 abbrev pub answerTo : Bool → List ℕ → List ℕ → List ℕ

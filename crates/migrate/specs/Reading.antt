@@ -1,12 +1,11 @@
 -- Inner definitions: how the program reads a text byte by byte, with no more of it in hand than the part of a line that it stands in. What
 -- it reads this way is what specs/Format.antt says, by the laws of proofs/.
 use Prim.Native.Nat.{ℕ, _+_, _*_, _%_}
-use mathlib.Core.Bool.{Bool, true, false, _&&_}
+use mathlib.Core.Bool.{Bool, true, false}
 use mathlib.Core.Path.{_≡_}
 use mathlib.Core.List.{List, [], _∷_, _++_}
 use lib.Dec.{leb, ltb, eqb}
 use Rattle.word.specs.Word.{pick}
-use Rattle.table.specs.declared.Record.{Record}
 use Rattle.table.specs.declared.Table.{Table}
 use Rattle.table.specs.Records.{recordIs, noRecords, withRecord}
 use Rattle.migrate.specs.declared.reading.Part.{Part}
@@ -43,15 +42,7 @@ grownBy Wrong b d = Wrong
 unfoldable pub grown : Part → ℕ → Part
 grown p b = grownBy p b (digitValue b)
 
--- whether a part is a whole line, and its record
-abbrev pub isWhole : Part → Bool
-isWhole Nothing = false
-isWhole (Cycle cycle) = false
-isWhole (Space cycle) = false
-isWhole (Digit cycle first) = false
-isWhole (Whole cycle line) = true
-isWhole Wrong = false
-
+-- whether nothing of a line is read
 abbrev pub isNothing : Part → Bool
 isNothing Nothing = true
 isNothing (Cycle cycle) = false

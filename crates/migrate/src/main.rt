@@ -9,7 +9,6 @@ use reading::Lines;
 use reading::Reading;
 ghost use mathlib.Core.Path.{_≡_};
 ghost use Rattle.migrate.specs.Migrated.{migrated};
-ghost use Rattle.migrate.specs.Reading.{finished};
 ghost use Rattle.migrate.specs.Page.{pageText, answerTo, answerOf};
 
 // What is printed for the records of good lines, or where a line is not good.

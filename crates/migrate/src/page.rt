@@ -1,9 +1,7 @@
 // The page that is printed: a line for each record that is kept, and one that counts.
 use machine::Machine;
-use table::Table;
 use text::Text;
 ghost use mathlib.Core.Path.{_≡_};
-ghost use mathlib.Core.List.{[], _∷_};
 ghost use Prim.Native.Nat.{_≤_};
 ghost use lib.ListN.{length};
 ghost use Rattle.text.specs.Text.{ascii};
