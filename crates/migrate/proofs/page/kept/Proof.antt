@@ -1,9 +1,10 @@
 use Prim.Native.Nat.{_≤_, _-_}
 use native.Mathlib.Omega.{arith}
-use mathlib.Core.Path.{_≡_, refl, _∙_}
+use mathlib.Core.Path.{_≡_, refl, _∙_, ap}
 use mathlib.Core.Logic.{⊎-elim}
 use lib.ListN.{length, drop}
 use borrow.Author.Needs.{needs}
+use Rattle.migrate.specs.declared.page.Page.{Page}
 use Rattle.migrate.specs.Page.{paired, withKept}
 use Rattle.migrate.proofs.Pages.{put-kept, left-out, one-kept, all-kept}
 use Rattle.migrate.proofs.page.kept.Statement.{statement}
@@ -34,7 +35,9 @@ loop-again c =
 returns : tie.Need-returns Inv-loop μ-loop
 returns c =
     let end = c .before .loop in
-    all-kept (end .page) _ (end .last) _ _ (end .i) (c .loop-test .left) (end .inv .1) ∙ rw (c .before .before .empty .ensures)
+    let start = c .before .before .before .before .before in
+    all-kept (end .page) _ (end .last) _ _ (end .i) (c .loop-test .left) (end .inv .1)
+    ∙ ap (λ (p : Page). withKept p 0 (paired (start .args .cycles .now) (start .args .lines .now))) (c .before .before .empty .ensures)
 
 pub kept-spec : {M : Type 1} → statement M
 kept-spec =
