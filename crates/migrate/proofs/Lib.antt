@@ -4,3 +4,4 @@ pub mod OneLine
 pub mod AllLines
 pub mod Renewed
 pub mod Whole
+pub mod Again

@@ -4,13 +4,14 @@ use native.Mathlib.Omega.{arith}
 use native.Mathlib.Nat.{mod-lt, mod-eq-of-lt}
 use native.Mathlib.Numerals.{add-one}
 use mathlib.Core.Path.{_≡_, refl, sym, _∙_, ap, subst}
-use mathlib.Core.Bool.{Bool, true, false}
+use mathlib.Core.Bool.{Bool, true, false, not, _&&_, _||_}
 use mathlib.Core.List.{List, [], _∷_, _++_, append-assoc, append-nil, map}
 use lib.Dec.{ltb, eqb}
 use lib.ListN.{length, take, length-append, length-set, length-map}
 use lib.Seq.{take-suc-set}
 use borrow.Author.Tests.{lt-ltb, eqb-true, eq-eqb}
-use Rattle.word.specs.Word.{pick}
+use Rattle.word.specs.Word.{pick, bitOf}
+use Rattle.word.proofs.Table.{same, same-is, everyBelow, at-number}
 use Rattle.machine.specs.Names.{recordLimit}
 use Rattle.text.specs.declared.Text.{Text}
 use Rattle.text.specs.Text.{ascii, blank, written, lastDigits, digitOf, numeral}
@@ -19,8 +20,20 @@ use Rattle.text.proofs.Digits.{digits-at-most}
 use Rattle.table.specs.declared.Record.{Record}
 use Rattle.table.specs.Records.{cyclesOf, linesOf, room}
 use Rattle.migrate.specs.declared.page.Page.{Page}
-use Rattle.migrate.specs.Migrated.{clearedByte, cleared, alteredCount, keptAfter, kept, recordLine, printed, countsLine, renewed, RenewedOnce}
+use Rattle.migrate.specs.Migrated.{clearedByte, TwoBitsCleared, cleared, alteredCount, keptAfter, kept, recordLine, printed, countsLine, renewed}
 use Rattle.migrate.specs.Page.{joined, pageText, emptyPage, withText, textOf, paired, withKept}
+
+pub two-bits-cleared : (b : ℕ) → b < 256 → TwoBitsCleared b
+two-bits-cleared b byte =
+    record {
+      bits =
+          λ k h. same-is (bitOf k (clearedByte b)) (ltb k 6 && bitOf k b)
+          (at-number (λ (k : ℕ). same (bitOf k (clearedByte b)) (ltb k 6 && bitOf k b)) 8
+          (at-number (λ (b : ℕ). everyBelow (λ (k : ℕ). same (bitOf k (clearedByte b)) (ltb k 6 && bitOf k b)) 8) 256 tt b byte) k h);
+      altered =
+          same-is (eqb (clearedByte b) b) (not (bitOf 6 b || bitOf 7 b))
+          (at-number (λ (b : ℕ). same (eqb (clearedByte b) b) (not (bitOf 6 b || bitOf 7 b))) 256 tt b byte);
+    }
 
 -- a text of few bytes
 text-is : (bs : List ℕ) → length bs ≤ 80 → written (textOf bs) ≡ bs
@@ -106,7 +119,7 @@ keeps p last (r ∷ rs) free s = go (eqb (clearedByte (r .line)) last) (λ q. ke
           text = rest .text ∙ rw (line .text, append-assoc);
         }
 
-kept-few : (last : ℕ) (rs : List Record) → length (keptAfter last rs) ≤ length rs
+pub kept-few : (last : ℕ) (rs : List Record) → length (keptAfter last rs) ≤ length rs
 unfolding keptAfter
 kept-few last [] = omega arith
 kept-few last (r ∷ rs) = go (eqb (r .line) last) (kept-few (r .line) rs)
@@ -209,5 +222,6 @@ stays rs s =
     let none : length rs - length rs ≡ 0 = omega arith in
     rw (s .same, s .unaltered, none)
 
-pub renewed-once : RenewedOnce
+-- a new schedule is not renewed once more
+pub renewed-once : (rs : List Record) → renewed (kept (map cleared rs)) ≡ printed (kept (map cleared rs)) ++ ascii "0 0\n"
 renewed-once rs = stays (kept (map cleared rs)) (settled 0 rs)

@@ -18,7 +18,7 @@ unfoldable pub textLines : List ℕ → List (List ℕ)
 textLines [] = []
 textLines (b ∷ bs) = pick (eqb b 10) ([] ∷ textLines bs) (before b (textLines bs))
 
--- a byte from one to another
+-- a byte from one to another, both of them too
 abbrev pub within : ℕ → ℕ → ℕ → Bool
 within low high b = leb low b && leb b high
 
@@ -65,13 +65,20 @@ isEnd l = eqb (length l) 3 && (eqb (getD l 0 0) 32 && (isHex (getD l 1 0) && isH
 abbrev pub endByte : List ℕ → ℕ
 endByte l = digitValue (getD l 1 0) * 16 + digitValue (getD l 2 0)
 
--- a good line: decimal digits that spell a cycle number, a space, and two hexadecimal digits
+-- the cycle number and the line byte of a line
+abbrev pub cycleOf : List ℕ → ℕ
+cycleOf l = spelledAfter 0 (front l)
+
+abbrev pub lineOf : List ℕ → ℕ
+lineOf l = endByte (rest l)
+
+-- a good line: decimal digits, a space and two hexadecimal digits, and a cycle number that is not too great
 abbrev pub goodLine : List ℕ → Bool
-goodLine l = notEmpty (front l) && (isEnd (rest l) && leb (spelledAfter 0 (front l)) lastCycle)
+goodLine l = notEmpty (front l) && (isEnd (rest l) && leb (cycleOf l) lastCycle)
 
 -- its record
 abbrev pub recordOf : List ℕ → Record
-recordOf l = recordIs (spelledAfter 0 (front l)) (endByte (rest l))
+recordOf l = recordIs (cycleOf l) (lineOf l)
 
 -- every line is good
 unfoldable pub goodLines : List (List ℕ) → Bool

@@ -1,12 +1,12 @@
 -- What the program prints for a text (docs/MIGRATE.md): the records with the bits 6 and 7 of their line bytes cleared, without those
 -- that then repeat the byte before them, and how many were altered and removed. For other text, or a schedule that reply 2 refuses: bad.
-use Prim.Native.Nat.{ℕ, suc, _-_, _%_}
+use Prim.Native.Nat.{ℕ, suc, _-_, _%_, _<_}
 use mathlib.Core.Path.{_≡_}
-use mathlib.Core.Bool.{_&&_}
+use mathlib.Core.Bool.{true, not, _&&_, _||_}
 use mathlib.Core.List.{List, [], _∷_, _++_, map}
-use lib.Dec.{eqb}
+use lib.Dec.{ltb, eqb}
 use lib.ListN.{length}
-use Rattle.word.specs.Word.{pick}
+use Rattle.word.specs.Word.{pick, bitOf}
 use Rattle.schedule.specs.Schedule.{accepted}
 use Rattle.machine.specs.Names.{recordLimit}
 use Rattle.table.specs.declared.Record.{Record}
@@ -17,6 +17,12 @@ use Rattle.migrate.specs.Format.{textLines, goodLines, recordOf}
 -- a line byte with its bits 6 and 7 cleared: what is left are the bits 0 to 5
 abbrev pub clearedByte : ℕ → ℕ
 clearedByte b = b % 64
+
+-- Of a byte, bit by bit: those two are cleared and the others stay, and the byte is altered where one of the two was set. Proved under
+-- the same name in proofs/Renewed.antt.
+pub record TwoBitsCleared (b : ℕ) : Type 0 where
+  pub bits : (k : ℕ) → k < 8 → bitOf k (clearedByte b) ≡ ltb k 6 && bitOf k b
+  pub altered : eqb (clearedByte b) b ≡ not (bitOf 6 b || bitOf 7 b)
 
 abbrev pub cleared : Record → Record
 cleared r = recordIs (r .cycle) (clearedByte (r .line))
@@ -62,7 +68,13 @@ migratedLines ls =
 unfoldable pub migrated : List ℕ → List ℕ
 migrated text = migratedLines (textLines text)
 
--- A new schedule is not renewed once more: none of its records is altered or removed. Proved under the same name in proofs/Renewed.antt.
-abbrev pub RenewedOnce : Type 0
-RenewedOnce =
-    (rs : List Record) → renewed (kept (map cleared rs)) ≡ printed (kept (map cleared rs)) ++ ascii "0 0\n"
+-- the lines of the new schedule
+abbrev pub newLines : List ℕ → List ℕ
+newLines text = printed (kept (map cleared (map recordOf (textLines text))))
+
+-- They are a good text, and are not changed once more. Proved under the same name in proofs/Again.antt.
+abbrev pub MigratedOnce : Type 0
+MigratedOnce =
+    (text : List ℕ) → goodLines (textLines text) ≡ true →
+    accepted recordLimit (cyclesOf (map recordOf (textLines text))) (linesOf (map recordOf (textLines text))) ≡ true →
+    migrated (newLines text) ≡ newLines text ++ ascii "0 0\n"
