@@ -83,6 +83,10 @@ readOn s (b ∷ bs) = readOn (withByte (s .done) (s .part) b) bs
 abbrev pub ReadInParts : Type 0
 ReadInParts = (s : Reading) (a b : List ℕ) → readOn s (a ++ b) ≡ readOn (readOn s a) b
 
+-- an input that fails is taken for one with a line that is not good
+abbrev pub spoiledIs : Reading → Reading
+spoiledIs s = readingIs (s .done) Wrong
+
 -- the text ends, and its last line, if a part of it is read
 abbrev pub finished : Reading → Lines
 finished s = pick (isNothing (s .part)) (s .done) (withLine (s .done) (s .part))

@@ -31,7 +31,8 @@ fn answer(done: Lines) -> Page
     answer_to(done.good, &cycles[..n], &lines[..n])
 }
 
-// What is printed for a text.
+// What is printed for a text, in one call. The program has no room for a whole text and reads it in parts, which is the same
+// (`ReadInParts` in specs/Reading.antt).
 fn migrate(text: &[u8]) -> Page
     ensures { λ r. ⌜ pageText r ≡ migrated (now (text .entry)) ⌝ }
 {
@@ -39,7 +40,7 @@ fn migrate(text: &[u8]) -> Page
     answer(reading::finish(s))
 }
 
-// Whether the input goes on, and what is read so far.
+// Whether the input may go on, and what is read so far.
 struct Chunk {
     more: bool,
     reading: Reading,
@@ -48,6 +49,12 @@ struct Chunk {
 fn read_more(s: Reading) -> Chunk {
     let mut chunk = io::buffer();
     let got = libc::read(0, &mut chunk);
+    if got < 0 {
+        return Chunk {
+            more: false,
+            reading: reading::spoiled(s),
+        };
+    }
     let n = io::count(got, &chunk);
     Chunk {
         more: got > 0,

@@ -3,7 +3,7 @@ use table::Record;
 use table::Table;
 ghost use mathlib.Core.Path.{_≡_};
 ghost use Rattle.migrate.specs.Format.{digitValue};
-ghost use Rattle.migrate.specs.Reading.{longer as longerOf, started as startedOf, counted as countedOf, high as highOf, low as lowOf, grown as grownOf, withLine, linesAre, withLine, isNothing, begun, readOn, finished};
+ghost use Rattle.migrate.specs.Reading.{longer as longerOf, started as startedOf, counted as countedOf, high as highOf, low as lowOf, grown as grownOf, withLine, linesAre, withLine, isNothing, begun, readOn, spoiledIs, finished};
 
 // What is read of a line. Once it can become no record it is wrong, whatever follows.
 pub enum Part {
@@ -179,6 +179,17 @@ pub fn read(s: Reading, text: &[u8]) -> Reading
     Reading {
         done: done,
         part: part,
+    }
+}
+
+// What is read of an input that fails: its rest is not known, so it counts as other text.
+pub fn spoiled(s: Reading) -> Reading
+    ensures { λ r. ⌜ r ≡ spoiledIs s ⌝ }
+{
+    let done = s.done;
+    Reading {
+        done: done,
+        part: Part::Wrong,
     }
 }
 
