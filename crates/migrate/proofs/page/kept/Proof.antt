@@ -1,19 +1,18 @@
 use Prim.Native.Nat.{_≤_, _-_}
 use native.Mathlib.Omega.{arith}
-use mathlib.Core.Path.{_≡_, refl, _∙_, ap}
+use mathlib.Core.Path.{_≡_, refl, _∙_}
 use mathlib.Core.Logic.{⊎-elim}
 use lib.ListN.{length, drop}
 use borrow.Author.Needs.{needs}
-use Rattle.migrate.specs.declared.page.Page.{Page}
 use Rattle.migrate.specs.Page.{paired, withKept}
 use Rattle.migrate.proofs.Pages.{put-kept, left-out, one-kept, all-kept}
 use Rattle.migrate.proofs.page.kept.Statement.{statement}
 use Rattle.migrate.proofs.page.kept.Tie as tie
 
--- the page with what is left from here is the whole
+-- the page with what is left from here is the whole, where the byte before the first record is 0
 abbrev Inv-loop : tie.InvT-loop
 Inv-loop cycles lines page₀ last₀ i₀ page last i =
-    (i ≤ length cycles) × (withKept page last (paired (drop i cycles) (drop i lines)) ≡ withKept page₀ last₀ (paired cycles lines))
+    (i ≤ length cycles) × (withKept page last (paired (drop i cycles) (drop i lines)) ≡ withKept page₀ 0 (paired cycles lines))
 
 abbrev μ-loop : tie.MeasureT-loop
 μ-loop cycles lines page₀ last₀ i₀ page last i = length cycles - i
@@ -35,9 +34,7 @@ loop-again c =
 returns : tie.Need-returns Inv-loop μ-loop
 returns c =
     let end = c .before .loop in
-    let start = c .before .before .before .before .before in
-    all-kept (end .page) _ (end .last) _ _ (end .i) (c .loop-test .left) (end .inv .1)
-    ∙ ap (λ (p : Page). withKept p 0 (paired (start .args .cycles .now) (start .args .lines .now))) (c .before .before .empty .ensures)
+    all-kept (end .page) _ (end .last) _ _ (end .i) (c .loop-test .left) (end .inv .1) ∙ rw (c .before .before .empty .ensures)
 
 pub kept-spec : {M : Type 1} → statement M
 kept-spec =
