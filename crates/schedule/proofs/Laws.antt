@@ -99,9 +99,12 @@ and-right true b e = e
 and-right false true e = refl
 and-right false false e = e
 
--- a schedule that is accepted has as many lines as cycles, and these rise
+-- a schedule that is accepted has as many lines as cycles, no more than so many, and these rise
 pub accepted-same : (most : ℕ) (cs ls : List ℕ) → accepted most cs ls ≡ true → length cs ≡ length ls
 accepted-same most cs ls good = eqb-true _ _ (and-left _ (leb (length cs) most) (and-left _ (rising cs) good))
+
+pub accepted-few : (most : ℕ) (cs ls : List ℕ) → accepted most cs ls ≡ true → length cs ≤ most
+accepted-few most cs ls good = leb-true _ _ (and-right (eqb (length cs) (length ls)) _ (and-left _ (rising cs) good))
 
 pub accepted-rising : (most : ℕ) (cs ls : List ℕ) → accepted most cs ls ≡ true → rising cs ≡ true
 accepted-rising most cs ls good = and-right (eqb (length cs) (length ls) && leb (length cs) most) (rising cs) good

@@ -1,0 +1,4 @@
+pub mod Format
+pub mod Migrated
+pub mod Reading
+pub mod Page
