@@ -194,7 +194,7 @@ rises-earlier c d (e ∷ cs) h up =
     let parts = and-eq-true-iff (ltb d e) (risingAfter e cs) .0 up in
     and-eq-true-iff (ltb c e) (risingAfter e cs) .1 (lt-ltb c e (omega (arith, h, ltb-true d e (parts .0))), parts .1)
 
-kept-rises-after : (c last : ℕ) (rs : List Record) → risingAfter c (cyclesOf rs) ≡ true → risingAfter c (cyclesOf (keptAfter last (map cleared rs))) ≡ true
+pub kept-rises-after : (c last : ℕ) (rs : List Record) → risingAfter c (cyclesOf rs) ≡ true → risingAfter c (cyclesOf (keptAfter last (map cleared rs))) ≡ true
 unfolding risingAfter keptAfter
 kept-rises-after c last [] up = refl
 kept-rises-after c last (r ∷ rs) up = go (eqb (clearedByte (r .line)) last) (kept-rises-after (r .cycle) (clearedByte (r .line)) rs (parts .1))
@@ -218,7 +218,7 @@ kept-rises last (r ∷ rs) up = go (eqb (clearedByte (r .line)) last) (kept-rise
     go true rest = rising-rest (r .cycle) (cyclesOf (keptAfter (clearedByte (r .line)) (map cleared rs))) rest
     go false rest = rest
 
-kept-accepted : (rs : List Record) → accepted recordLimit (cyclesOf rs) (linesOf rs) ≡ true
+pub kept-accepted : (rs : List Record) → accepted recordLimit (cyclesOf rs) (linesOf rs) ≡ true
     → accepted recordLimit (cyclesOf (kept (map cleared rs))) (linesOf (kept (map cleared rs))) ≡ true
 kept-accepted rs good =
     let ks = kept (map cleared rs) in

@@ -5,3 +5,4 @@ pub mod AllLines
 pub mod Renewed
 pub mod Whole
 pub mod Again
+pub mod InForce

@@ -4,7 +4,7 @@ use native.Mathlib.Omega.{arith}
 use native.Mathlib.Nat.{mod-lt, mod-eq-of-lt}
 use native.Mathlib.Numerals.{add-one}
 use mathlib.Core.Path.{_≡_, refl, sym, _∙_, ap, subst}
-use mathlib.Core.Bool.{Bool, true, false, not, _&&_, _||_}
+use mathlib.Core.Bool.{Bool, true, false, not, _&&_}
 use mathlib.Core.List.{List, [], _∷_, _++_, append-assoc, append-nil, map}
 use lib.Dec.{ltb, eqb}
 use lib.ListN.{length, take, length-append, length-set, length-map}
@@ -12,6 +12,7 @@ use lib.Seq.{take-suc-set}
 use borrow.Author.Tests.{lt-ltb, eqb-true, eq-eqb}
 use Rattle.word.specs.Word.{pick, bitOf}
 use Rattle.word.proofs.Table.{same, same-is, everyBelow, at-number}
+use Rattle.schedule.specs.Schedule.{withdrawn}
 use Rattle.machine.specs.Names.{recordLimit}
 use Rattle.text.specs.declared.Text.{Text}
 use Rattle.text.specs.Text.{ascii, blank, written, lastDigits, digitOf, numeral}
@@ -31,8 +32,8 @@ two-bits-cleared b byte =
           (at-number (λ (k : ℕ). same (bitOf k (clearedByte b)) (ltb k 6 && bitOf k b)) 8
           (at-number (λ (b : ℕ). everyBelow (λ (k : ℕ). same (bitOf k (clearedByte b)) (ltb k 6 && bitOf k b)) 8) 256 tt b byte) k h);
       altered =
-          same-is (eqb (clearedByte b) b) (not (bitOf 6 b || bitOf 7 b))
-          (at-number (λ (b : ℕ). same (eqb (clearedByte b) b) (not (bitOf 6 b || bitOf 7 b))) 256 tt b byte);
+          same-is (eqb (clearedByte b) b) (not (withdrawn b))
+          (at-number (λ (b : ℕ). same (eqb (clearedByte b) b) (not (withdrawn b))) 256 tt b byte);
     }
 
 -- a text of few bytes

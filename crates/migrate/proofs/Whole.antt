@@ -19,7 +19,7 @@ use Rattle.migrate.specs.declared.reading.Lines.{Lines}
 use Rattle.migrate.specs.Format.{textLines, goodLines, recordOf}
 use Rattle.migrate.specs.Migrated.{renewed, migratedLines, migrated}
 use Rattle.migrate.specs.Reading.{linesAre, begun, withByte, readOn, ReadInParts, finished}
-use Rattle.migrate.specs.Page.{paired, answerTo, answerOf}
+use Rattle.migrate.specs.Page.{paired, answerTo, answerOf, ReadIsAnswered}
 use Rattle.migrate.proofs.AllLines.{linesRead, lines-of-text, gives}
 use Rattle.migrate.proofs.Renewed.{paired-records}
 
@@ -60,9 +60,9 @@ lines-answer ls =
     go all true are table = rw (are, table refl) (table-answers (map recordOf ls))
     go all false are table = rw are
 
-pub migrates : (text : List ℕ) → answerOf (finished (readOn begun text)) ≡ migrated text
+pub read-is-answered : ReadIsAnswered
 unfolding migrated
-migrates text = rw (lines-of-text (linesAre true noRecords) text) (lines-answer (textLines text))
+read-is-answered text = rw (lines-of-text (linesAre true noRecords) text) (lines-answer (textLines text))
 
 pub read-in-parts : ReadInParts
 unfolding readOn

@@ -1,5 +1,6 @@
 -- Inner definitions: the page that the program prints, and how its lines are put on it.
 use Prim.Native.Nat.{ℕ, _+_}
+use mathlib.Core.Path.{_≡_}
 use mathlib.Core.Bool.{Bool, _&&_}
 use mathlib.Core.List.{List, [], _∷_, _++_}
 use lib.Dec.{ltb, eqb}
@@ -13,8 +14,8 @@ use Rattle.text.specs.declared.Text.{Text}
 use Rattle.text.specs.Text.{ascii, blank, written, withBytes}
 use Rattle.migrate.specs.declared.page.Page.{Page}
 use Rattle.migrate.specs.declared.reading.Lines.{Lines}
-use Rattle.migrate.specs.Migrated.{clearedByte, recordLine, renewed}
-use Rattle.migrate.specs.Reading.{finished}
+use Rattle.migrate.specs.Migrated.{clearedByte, recordLine, renewed, migrated}
+use Rattle.migrate.specs.Reading.{begun, readOn, finished}
 
 -- what is written in texts, one after another
 unfoldable pub joined : List Text → List ℕ
@@ -60,3 +61,8 @@ answerTo good cycles lines =
 -- and for finished lines
 abbrev pub answerOf : Lines → List ℕ
 answerOf done = answerTo (done .good) (tableCycles (done .table)) (tableLines (done .table))
+
+-- A text that was read, in whatever parts, is answered with what it is migrated to: so the program, which reads its input in parts,
+-- prints what `migrate` gives back for all of it. Proved under the same name in proofs/Whole.antt.
+abbrev pub ReadIsAnswered : Type 0
+ReadIsAnswered = (text : List ℕ) → answerOf (finished (readOn begun text)) ≡ migrated text
