@@ -72,10 +72,10 @@ not-withdrawn b =
     let seven : clearedByte b / 128 % 2 ≡ 0 = omega arith in
     rw (six, seven)
 
-none-withdrawn : (last : ℕ) (rs : List Record) → anyWithdrawn (linesOf (staying last rs)) ≡ false
+none-withdrawn-left : (last : ℕ) (rs : List Record) → anyWithdrawn (linesOf (staying last rs)) ≡ false
 unfolding anyWithdrawn keptAfter
-none-withdrawn last [] = refl
-none-withdrawn last (r ∷ rs) = go (eqb (clearedByte (r .line)) last) (none-withdrawn (clearedByte (r .line)) rs)
+none-withdrawn-left last [] = refl
+none-withdrawn-left last (r ∷ rs) = go (eqb (clearedByte (r .line)) last) (none-withdrawn-left (clearedByte (r .line)) rs)
   where
     go :
         (repeats : Bool) → anyWithdrawn (linesOf (staying (clearedByte (r .line)) rs)) ≡ false →
@@ -88,5 +88,5 @@ new-schedule rs good =
     record {
       lines = λ clock. stays-in-force 0 rs clock (accepted-rising recordLimit (cyclesOf rs) (linesOf rs) good);
       good = kept-accepted rs good;
-      asked = none-withdrawn 0 rs;
+      none-withdrawn = none-withdrawn-left 0 rs;
     }

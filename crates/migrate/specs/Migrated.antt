@@ -52,7 +52,7 @@ pub record NewSchedule (rs : List Record) : Type 0 where
       (clock : ℕ) →
       lineAt (cyclesOf (newRecords rs)) (linesOf (newRecords rs)) clock ≡ clearedByte (lineAt (cyclesOf rs) (linesOf rs) clock)
   pub good : accepted recordLimit (cyclesOf (newRecords rs)) (linesOf (newRecords rs)) ≡ true
-  pub asked : anyWithdrawn (linesOf (newRecords rs)) ≡ false
+  pub none-withdrawn : anyWithdrawn (linesOf (newRecords rs)) ≡ false
 
 abbrev pub EveryNewSchedule : Type 0
 EveryNewSchedule = (rs : List Record) → accepted recordLimit (cyclesOf rs) (linesOf rs) ≡ true → NewSchedule rs

@@ -68,21 +68,21 @@ none-first (suc n) (l ∷ ls) none =
     rw (or-left (withdrawn l) _ none) (none-first n ls (or-right (withdrawn l) _ none))
 
 -- so a schedule that is set back has none, and neither has what is handed to a run
-pub asked-back : (given : Given) (amount : ℕ) → (BadLineIn given → ⊥) → BadLineIn (setBack amount given) → ⊥
-asked-back given amount good =
+pub good-lines-back : (given : Given) (amount : ℕ) → (BadLineIn given → ⊥) → BadLineIn (setBack amount given) → ⊥
+good-lines-back given amount good =
     good-lines (setBack amount given) .0 (none-left (gone amount given) (given .lines) (good-lines given .1 good))
 
-asked-restated : (given : Given) (amount : ℕ) → anyWithdrawn (given .lines) ≡ false → anyWithdrawn (restated amount given .lines) ≡ false
+none-restated : (given : Given) (amount : ℕ) → anyWithdrawn (given .lines) ≡ false → anyWithdrawn (restated amount given .lines) ≡ false
 unfolding anyWithdrawn
-asked-restated given amount none =
+none-restated given amount none =
     rw (in-force-stays 0 (given .cycles) (given .lines) amount refl none) (none-left (passed (given .cycles) amount) (given .lines) none)
 
-pub asked-handed : (given : Given) (amount to : ℕ) → (BadLineIn given → ⊥) → BadLineIn (handed amount to given) → ⊥
-asked-handed given amount to good =
+pub good-lines-handed : (given : Given) (amount to : ℕ) → (BadLineIn given → ⊥) → BadLineIn (handed amount to given) → ⊥
+good-lines-handed given amount to good =
     good-lines (handed amount to given) .0
-    (asked-restated (upTo to given) amount (none-first (passed (given .cycles) to) (given .lines) (good-lines given .1 good)))
+    (none-restated (upTo to given) amount (none-first (passed (given .cycles) to) (given .lines) (good-lines given .1 good)))
 
 pub no-bad-line-in-force : NoBadLineInForce
 no-bad-line-in-force s m given budget free clock =
     good-line (lineIn given clock) .0
-    (in-force-stays 0 (given .cycles) (given .lines) clock refl (is-free s m given budget free .asked))
+    (in-force-stays 0 (given .cycles) (given .lines) clock refl (is-free s m given budget free .none-withdrawn))

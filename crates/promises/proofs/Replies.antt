@@ -78,8 +78,8 @@ step-replied s m line = (λ held. ap (λ (e : End). e .reply) (step-refused s m 
 
 step-accepted : (s : State) (m : List ℕ) (line : ℕ) → (refusal s m line ≡ 0) ↔ StepAccepted s m line
 step-accepted s m line = (
-  λ e. let free = is-step-free s m line e in record { memory = free .whole; asked = good-line line .0 (free .asked); clock = free .near },
-  λ a. rw (eq-eqb (length m) 65536 (a .memory), good-line line .1 (a .asked), le-ltb 3999999900 (s .clock) (a .clock)),
+  λ e. let free = is-step-free s m line e in record { memory = free .whole; no-bad-line = good-line line .0 (free .none-withdrawn); clock = free .near },
+  λ a. rw (eq-eqb (length m) 65536 (a .memory), good-line line .1 (a .no-bad-line), le-ltb 3999999900 (s .clock) (a .clock)),
 )
 
 -- so a number that no turn has is the refusal's
@@ -265,8 +265,8 @@ run-gives-three s m given budget =
 pub run-accepted : (s : State) (m : List ℕ) (given : Given) (budget : ℕ) → (runRefusal s m given budget ≡ 0) ↔ RunAccepted s m given budget
 run-accepted s m given budget = (
   λ e. let free = is-free s m given budget e in
-      record { memory = free .whole; schedule = good-schedule given .0 (free .good); asked = good-lines given .0 (free .asked); spends = free .small; clock = free .near },
-  λ a. free-enough {s = s} {m = m} {given = given} {budget = budget} (record { whole = a .memory; good = good-schedule given .1 (a .schedule); asked = good-lines given .1 (a .asked); small = a .spends; near = a .clock }),
+      record { memory = free .whole; schedule = good-schedule given .0 (free .good); no-bad-line = good-lines given .0 (free .none-withdrawn); spends = free .small; clock = free .near },
+  λ a. free-enough {s = s} {m = m} {given = given} {budget = budget} (record { whole = a .memory; good = good-schedule given .1 (a .schedule); none-withdrawn = good-lines given .1 (a .no-bad-line); small = a .spends; near = a .clock }),
 )
 
 -- the boundary where a run ended

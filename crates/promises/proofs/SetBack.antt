@@ -26,7 +26,7 @@ use Rattle.promises.specs.Steps.{afterSteps, IsOfSteps}
 use Rattle.promises.proofs.Steps.{takes-steps, words-after, keeps, and-then}
 use Rattle.promises.proofs.Boundaries.{one-on}
 use Rattle.promises.proofs.Replies.{run-accepted}
-use Rattle.promises.proofs.BadLines.{asked-back, asked-handed}
+use Rattle.promises.proofs.BadLines.{good-lines-back, good-lines-handed}
 use Rattle.promises.proofs.Handed.{good-back, lines-back, good-handed, lines-handed}
 
 module _ (given given′ : Given) (amount : ℕ) where
@@ -196,7 +196,7 @@ the-clock-may-be-set-back s m given amount budget back free =
     let good = good-back given amount (a .schedule) in
     let free′ =
     run-accepted (earlier amount s) m (setBack amount given) budget .1
-    (record { memory = a .memory; schedule = good; asked = asked-back given amount (a .asked); spends = a .spends; clock = omega (arith, a .clock) }) in
+    (record { memory = a .memory; schedule = good; no-bad-line = good-lines-back given amount (a .no-bad-line); spends = a .spends; clock = omega (arith, a .clock) }) in
     let lines = lines-back given amount (a .schedule) (s .clock) (s .clock + budget) back in (
       free′,
       run-taken (earlier amount s) m (setBack amount given) budget free′
@@ -205,9 +205,9 @@ the-clock-may-be-set-back s m given amount budget back free =
     )
 
 pub what-is-handed-will-do : WhatIsHandedWillDo
-what-is-handed-will-do s m given amount budget up same asked few whole small near back =
+what-is-handed-will-do s m given amount budget up same lines few whole small near back =
     let to = s .clock + budget in
     let free =
     run-accepted (earlier amount s) m (handed amount to given) budget .1
-    (record { memory = whole; schedule = good-handed given amount to up same few; asked = asked-handed given amount to asked; spends = small; clock = near }) in
+    (record { memory = whole; schedule = good-handed given amount to up same few; no-bad-line = good-lines-handed given amount to lines; spends = small; clock = near }) in
     record { back = back; lines = lines-handed given amount to up same (s .clock) back; free = free }

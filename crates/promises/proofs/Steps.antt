@@ -387,14 +387,14 @@ pub a-run-splits : ARunSplits
 a-run-splits s m given first budget w bytes free part =
     let f = is-free s m given budget free in
     let f₁ : Free s m given first =
-    record { whole = f .whole; good = f .good; asked = f .asked; small = omega (arith, part, f .small); near = omega (arith, part, f .near) } in
+    record { whole = f .whole; good = f .good; none-withdrawn = f .none-withdrawn; small = omega (arith, part, f .small); near = omega (arith, part, f .near) } in
     let h = goesOn (suc first) given s m first in
     let kept = keeps (suc first) s m given first in
     let f₂ : Free (h .state) (h .memory) given (budget - h .cycles) =
     record {
       whole = kept .length-is ∙ f .whole;
       good = f .good;
-      asked = f .asked;
+      none-withdrawn = f .none-withdrawn;
       small = omega (arith, f .small);
       near = omega (arith, part, kept .clock, kept .most, f .near);
     } in

@@ -80,7 +80,7 @@ StepGivesThree =
 -- none of 1, 15 and 3
 pub record StepAccepted (s : State) (m : List ℕ) (line : ℕ) : Type 0 where
   pub memory : length m ≡ 65536
-  pub asked : BadLine line → ⊥
+  pub no-bad-line : BadLine line → ⊥
   pub clock : s .clock ≤ 3999999900
 
 -- 4 and 5 where they are due, and 0 where nothing else is: the step was done
@@ -141,7 +141,7 @@ RunGivesThree =
 pub record RunAccepted (s : State) (m : List ℕ) (given : Given) (budget : ℕ) : Type 0 where
   pub memory : length m ≡ 65536
   pub schedule : BadSchedule given → ⊥
-  pub asked : BadLineIn given → ⊥
+  pub no-bad-line : BadLineIn given → ⊥
   pub spends : budget ≤ 100000000
   pub clock : s .clock + budget ≤ 4000000000
 

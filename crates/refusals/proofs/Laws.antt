@@ -17,7 +17,7 @@ use Rattle.refusals.specs.Refusals.{refusal, runRefusal}
 -- a step
 pub record StepFree (s : State) (m : List ℕ) (line : ℕ) : Type 0 where
   pub whole : length m ≡ memorySize
-  pub asked : withdrawn line ≡ false
+  pub none-withdrawn : withdrawn line ≡ false
   pub near : s .clock ≤ stepLimit
 
 pub is-step-free : (s : State) (m : List ℕ) (line : ℕ) → refusal s m line ≡ 0 → StepFree s m line
@@ -33,13 +33,13 @@ is-step-free s m line = go (eqb (length m) memorySize) (withdrawn line) (ltb ste
     go false gone far e₁ e₂ e₃ none = absurd (omega (arith, none))
     go true true far e₁ e₂ e₃ none = absurd (omega (arith, none))
     go true false true e₁ e₂ e₃ none = absurd (omega (arith, none))
-    go true false false e₁ e₂ e₃ none = record { whole = eqb-true _ _ e₁; asked = e₂; near = ltb-false _ _ e₃ }
+    go true false false e₁ e₂ e₃ none = record { whole = eqb-true _ _ e₁; none-withdrawn = e₂; near = ltb-false _ _ e₃ }
 
 -- a run
 pub record Free (s : State) (m : List ℕ) (given : Given) (budget : ℕ) : Type 0 where
   pub whole : length m ≡ memorySize
   pub good : accepted recordLimit (given .cycles) (given .lines) ≡ true
-  pub asked : anyWithdrawn (given .lines) ≡ false
+  pub none-withdrawn : anyWithdrawn (given .lines) ≡ false
   pub small : budget ≤ budgetLimit
   pub near : s .clock + budget ≤ clockLimit
 
@@ -63,8 +63,8 @@ is-free s m given budget =
     go true true false true far e₁ e₂ e₃ e₄ e₅ none = absurd (omega (arith, none))
     go true true false false true e₁ e₂ e₃ e₄ e₅ none = absurd (omega (arith, none))
     go true true false false false e₁ e₂ e₃ e₄ e₅ none =
-        record { whole = eqb-true _ _ e₁; good = e₂; asked = e₃; small = ltb-false _ _ e₄; near = ltb-false _ _ e₅ }
+        record { whole = eqb-true _ _ e₁; good = e₂; none-withdrawn = e₃; small = ltb-false _ _ e₄; near = ltb-false _ _ e₅ }
 
 -- and it is enough
 pub free-enough : {s : State} {m : List ℕ} {given : Given} {budget : ℕ} → Free s m given budget → runRefusal s m given budget ≡ 0
-free-enough f = rw (eq-eqb _ _ (f .whole), f .good, f .asked, le-ltb _ _ (f .small), le-ltb _ _ (f .near))
+free-enough f = rw (eq-eqb _ _ (f .whole), f .good, f .none-withdrawn, le-ltb _ _ (f .small), le-ltb _ _ (f .near))

@@ -23,8 +23,8 @@ lowestLine line =
     (pick (bitOf 3 line) 3
     (pick (bitOf 4 line) 4 (pick (bitOf 5 line) 5 noLine))))
 
--- The same by what the bits from 1 to 5 are as a number, where 6 is none, so that the order cannot be changed here and in the code together. Proved as
--- `lowest-first` in proofs/Laws.antt.
+-- The same by what the bits from 1 to 5 are as a number, where 6 is none, so that the order cannot be changed here and in the code
+-- together. Proved as `lowest-first` in proofs/Laws.antt.
 pub record LowestFirst (line : ℕ) : Type 0 where
   pub one : line / 2 % 2 ≡ 1 → lowestLine line ≡ 1
   pub two : line / 2 % 4 ≡ 2 → lowestLine line ≡ 2
