@@ -2,9 +2,9 @@
 use Prim.Native.Nat.{ℕ, _<_, _≤_}
 use native.Mathlib.Omega.{arith}
 use native.Mathlib.Decide.{decLe}
-use mathlib.Core.Path.{_≡_, refl, sym, _∙_}
+use mathlib.Core.Path.{_≡_, refl, sym, _∙_, ap}
 use mathlib.Core.Bool.{Bool, true, false, _&&_}
-use mathlib.Core.List.{List, [], _∷_, map}
+use mathlib.Core.List.{List, [], _∷_, _++_, map}
 use lib.ListN.{length, take, length-take, length-map}
 use lib.Seq.{take-all}
 use Rattle.word.specs.Word.{pick}
@@ -16,10 +16,11 @@ use Rattle.table.specs.Records.{cyclesOf, linesOf, room, tableCycles, tableLine
 use Rattle.table.proofs.Laws.{holds-first}
 use Rattle.text.specs.Text.{ascii}
 use Rattle.migrate.specs.declared.reading.Lines.{Lines}
+use Rattle.migrate.specs.declared.reading.Reading.{Reading}
 use Rattle.migrate.specs.Format.{textLines, goodLines, recordOf}
 use Rattle.migrate.specs.Migrated.{renewed, migratedLines, migrated}
 use Rattle.migrate.specs.Reading.{linesAre, begun, withByte, readOn, ReadInParts, finished}
-use Rattle.migrate.specs.Page.{paired, answerTo, answerOf, ReadIsAnswered}
+use Rattle.migrate.specs.Page.{paired, answerTo, answerOf, Answers}
 use Rattle.migrate.proofs.AllLines.{linesRead, lines-of-text, gives}
 use Rattle.migrate.proofs.Renewed.{paired-records}
 
@@ -60,11 +61,19 @@ lines-answer ls =
     go all true are table = rw (are, table refl) (table-answers (map recordOf ls))
     go all false are table = rw are
 
-pub read-is-answered : ReadIsAnswered
+migrates : (text : List ℕ) → answerOf (finished (readOn begun text)) ≡ migrated text
 unfolding migrated
-read-is-answered text = rw (lines-of-text (linesAre true noRecords) text) (lines-answer (textLines text))
+migrates text = rw (lines-of-text (linesAre true noRecords) text) (lines-answer (textLines text))
 
 pub read-in-parts : ReadInParts
 unfolding readOn
 read-in-parts s [] b = refl
 read-in-parts s (x ∷ a) b = read-in-parts (withByte (s .done) (s .part) x) a b
+
+-- so the last part of a text, after what was read before it, is answered as the whole text
+pub answers : (before : Reading) (rest page : List ℕ) → page ≡ answerOf (finished (readOn before rest)) → Answers before rest page
+answers before rest page is =
+    record {
+      whole = λ first left. is ∙ rw left (ap (λ (s : Reading). answerOf (finished s)) (sym (read-in-parts begun first rest)) ∙ migrates (first ++ rest));
+      of-any = is;
+    }

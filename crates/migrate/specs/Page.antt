@@ -14,6 +14,7 @@ use Rattle.text.specs.declared.Text.{Text}
 use Rattle.text.specs.Text.{ascii, blank, written, withBytes}
 use Rattle.migrate.specs.declared.page.Page.{Page}
 use Rattle.migrate.specs.declared.reading.Lines.{Lines}
+use Rattle.migrate.specs.declared.reading.Reading.{Reading}
 use Rattle.migrate.specs.Migrated.{clearedByte, recordLine, renewed, migrated}
 use Rattle.migrate.specs.Reading.{begun, readOn, finished}
 
@@ -62,7 +63,9 @@ answerTo good cycles lines =
 abbrev pub answerOf : Lines → List ℕ
 answerOf done = answerTo (done .good) (tableCycles (done .table)) (tableLines (done .table))
 
--- A text that was read, in whatever parts, is answered with what it is migrated to: so the program, which reads its input in parts,
--- prints what `migrate` gives back for all of it. Proved under the same name in proofs/Whole.antt.
-abbrev pub ReadIsAnswered : Type 0
-ReadIsAnswered = (text : List ℕ) → answerOf (finished (readOn begun text)) ≡ migrated text
+-- What is printed for a text of which one part was read and another is left. Where this reading is what a first part of a text leaves, as
+-- every reading is that the program comes to, it is what the whole text is migrated to; with no first part the rest is that text. Of any
+-- other reading it is determined too.
+pub record Answers (before : Reading) (rest page : List ℕ) : Type 0 where
+  pub whole : (first : List ℕ) → before ≡ readOn begun first → page ≡ migrated (first ++ rest)
+  pub of-any : page ≡ answerOf (finished (readOn before rest))

@@ -8,8 +8,7 @@ use page::Page;
 use reading::Lines;
 use reading::Reading;
 ghost use mathlib.Core.Path.{_≡_};
-ghost use Rattle.migrate.specs.Migrated.{migrated};
-ghost use Rattle.migrate.specs.Page.{pageText, answerTo, answerOf};
+ghost use Rattle.migrate.specs.Page.{pageText, answerTo, answerOf, Answers};
 
 // What is printed for the records of good lines, or where a line is not good.
 fn answer_to(good: bool, cycles: &[u32], lines: &[u8]) -> Page
@@ -31,53 +30,65 @@ fn answer(done: Lines) -> Page
     answer_to(done.good, &cycles[..n], &lines[..n])
 }
 
-// What is printed for a text, in one call. The program has no room for a whole text and reads it in parts, which is the same
-// (`ReadInParts` in specs/Reading.antt).
-fn migrate(text: &[u8]) -> Page
-    ensures { λ r. ⌜ pageText r ≡ migrated (now (text .entry)) ⌝ }
+// What is printed for a text of which `before` is what was read so far, and `rest` what is left: with `begin()` the rest is all of it.
+fn migrate(before: Reading, rest: &[u8]) -> Page
+    ensures { λ r. ⌜ Answers before (now (rest .entry)) (pageText r) ⌝ }
 {
-    let s = reading::read(reading::begin(), text);
+    let s = reading::read(before, rest);
     answer(reading::finish(s))
 }
 
-// Whether the input may go on, and what is read so far.
+// A part of the input: the first `n` bytes are read, and at its end none. None are where a read fails, too.
 struct Chunk {
-    more: bool,
-    reading: Reading,
+    bytes: [u8; 4096],
+    n: usize,
+    failed: bool,
 }
 
-fn read_more(s: Reading) -> Chunk {
-    let mut chunk = io::buffer();
-    let got = libc::read(0, &mut chunk);
-    if got < 0 {
-        return Chunk {
-            more: false,
-            reading: reading::spoiled(s),
-        };
-    }
-    let n = io::count(got, &chunk);
+fn next_chunk() -> Chunk {
+    let mut bytes = io::buffer();
+    let got = libc::read(0, &mut bytes);
+    let n = io::count(got, &bytes);
     Chunk {
-        more: got > 0,
-        reading: reading::read(s, &chunk[..n]),
+        bytes: bytes,
+        n: n,
+        failed: got < 0,
     }
 }
 
-// Reads to the end of the input. A proved loop has to end, and nothing says that the input does: it counts down from a number that no
-// run uses up.
-fn read_all() -> Reading {
+fn read_chunk(s: Reading, chunk: Chunk) -> Reading {
+    let bytes = chunk.bytes;
+    reading::read(s, text::first(&bytes, chunk.n))
+}
+
+fn migrate_chunk(before: Reading, chunk: Chunk) -> Page {
+    let bytes = chunk.bytes;
+    migrate(before, text::first(&bytes, chunk.n))
+}
+
+// Reads to the end of the input, one part ahead, so that its last part is at hand when the end is met: a text that comes in one part is
+// handed over whole. A proved loop has to end, and nothing says that the input does: it counts down from a number that no run uses up.
+fn answer_input() -> Page {
     let mut s = reading::begin();
+    let mut held = next_chunk();
+    let mut failed = held.failed;
     let mut reads = u64::MAX;
     while reads > 0 {
-        let chunk = read_more(s);
-        s = chunk.reading;
-        if !chunk.more {
-            return s;
+        let next = next_chunk();
+        failed = failed | next.failed;
+        if next.n == 0 {
+            break;
         }
+        s = read_chunk(s, held);
+        held = next;
         reads -= 1;
     }
-    s
+    if failed {
+        s = reading::spoiled(s);
+    }
+    migrate_chunk(s, held)
 }
 
 fn main() {
-    answer(reading::finish(read_all())).print();
+    answer_input().print();
 }

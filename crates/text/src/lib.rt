@@ -33,7 +33,7 @@ fn spelled(t: Text, n: u64, base: u64) -> Text
 }
 
 // The first n bytes, or all of them where n is more.
-fn first(bytes: &[u8], n: usize) -> &[u8]
+pub fn first(bytes: &[u8], n: usize) -> &[u8]
     ensures { λ r. ⌜ now r ≡ take n (now (bytes .entry)) ⌝ }
 {
     if n < bytes.len() {
