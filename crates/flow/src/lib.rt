@@ -1,4 +1,4 @@
-// Where the program goes next: branches and loops, subroutines and returns. SWI and TRAP belong here too, but their vectors are the
+// Where the program goes next: branches and loops, and subroutines. SWI, TRAP and RTI belong here too, but their vectors are the
 // machine's.
 use codes::Count8;
 use codes::Count16;
@@ -89,7 +89,7 @@ pub fn loop_primitive(s: State, p: u8, b: u8, cost: u8) -> Effect
     looped(p % 8, s, p / 32, word::extend_9(sign, b), cost)
 }
 
-// BSR, RTS, RTI, WAI, and the last the loop primitives.
+// BSR, RTS, WAI, and the last the loop primitives.
 pub fn control(s: State, m: &[u8], d: Decoded) -> Effect
     requires { ⌜ length (now m) ≡ 65536 ⌝ }
     requires { ⌜ Faithful (now m) d ⌝ }
@@ -99,7 +99,6 @@ pub fn control(s: State, m: &[u8], d: Decoded) -> Effect
     match kind {
         kind::BSR => stack::subroutine(s, d.cost, word::plus(s.pc, word::extend_8(d.postbyte))),
         kind::RTS => stack::returned(s, m, d.cost),
-        kind::RTI => effect::quiet(frames::pulled_frame(s, m), d.cost),
         kind::WAI => frames::wait(s, d.cost),
         _ => loop_primitive(
             s,

@@ -51,12 +51,16 @@ lineVector k = minusW 0xFFF4 (2 * k)
 abbrev pub noLine : ℕ
 noLine = 6
 
--- the costs of an entry, of the end of a wait (WAI's second part, fVfPPP), and of an idle cycle
+-- the costs of an entry, of the end of a wait (WAI's second part, fVfPPP), of an RTI that takes a request (the second access detail of its
+-- row, uUUUUVfPPP), and of an idle cycle
 abbrev pub entryCost : ℕ
 entryCost = 9
 
 abbrev pub wakeCost : ℕ
 wakeCost = 6
+
+abbrev pub returnAndEntryCost : ℕ
+returnAndEntryCost = 10
 
 abbrev pub idleCost : ℕ
 idleCost = 1
@@ -67,6 +71,6 @@ pub record InNumbers : Type 0 where
   pub vectors :
       lineVector 5 ∷ lineVector 4 ∷ lineVector 3 ∷ lineVector 2 ∷ lineVector 1 ∷ lineVector 0 ∷ swiVector ∷ trapVector ∷ resetVector ∷ []
       ≡ 0xFFEA ∷ 0xFFEC ∷ 0xFFEE ∷ 0xFFF0 ∷ 0xFFF2 ∷ 0xFFF4 ∷ 0xFFF6 ∷ 0xFFF8 ∷ 0xFFFE ∷ []
-  -- an entry costs as much as SWI, the end of a wait six letters, an idle cycle one
-  pub costs : entryCost ∷ wakeCost ∷ idleCost ∷ [] ≡ 9 ∷ 6 ∷ 1 ∷ []
+  -- an entry costs as much as SWI, the end of a wait six letters, an RTI that takes a request ten, an idle cycle one
+  pub costs : entryCost ∷ wakeCost ∷ returnAndEntryCost ∷ idleCost ∷ [] ≡ 9 ∷ 6 ∷ 10 ∷ 1 ∷ []
   pub limits : memorySize ∷ recordLimit ∷ budgetLimit ∷ clockLimit ∷ stepLimit ∷ [] ≡ 65536 ∷ 64 ∷ 100000000 ∷ 4000000000 ∷ 3999999900 ∷ []

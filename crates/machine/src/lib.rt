@@ -77,6 +77,8 @@ impl Machine {
 
     pub const WAKE_COST: u8 = 6;
 
+    pub const RETURN_AND_ENTRY_COST: u8 = 10;
+
     pub const IDLE_COST: u8 = 1;
 
     pub fn of(state: State) -> Self

@@ -11,12 +11,12 @@ use native.Mathlib.Decide.{decLt}
 use Rattle.word.specs.Word.{pick}
 use Rattle.word.proofs.Table.{at-entry, at-number, everyBelow, all, holds, same, same-is}
 use Rattle.opcodes.specs.declared.Cell.{Cell}
-use Rattle.opcodes.specs.Kind.{TRAP, PAGE2, TFR/EXG, LOOP, groupOf, STOPS, MOVES}
+use Rattle.opcodes.specs.Kind.{RTI, TRAP, PAGE2, TFR/EXG, LOOP, groupOf, STOPS, MOVES}
 use Rattle.opcodes.specs.Mode.{ID}
 use Rattle.opcodes.specs.Grid.{families, familyOf, grid, gridAt}
 use Rattle.opcodes.specs.Map.{Lines, noRow, pageOne, pageTwo, cellIs, cellIn, cellOf, cellNumber, opcodeMap}
 use Rattle.opcodes.specs.Postbyte.{IDX, formOf, extensionOf, indexedOf, formReserved, reservedOf, lengthIn, lengthOf, costIn, costOf, untakenOf}
-use Rattle.opcodes.specs.Rules.{stopsOf, stopCell, trapCell, prebyteCell, runs, regular, column, movesMode, widths, Sixteens, SixteenBySixteen, CostsByOpcode, EveryCell, EveryInstruction, MovesHaveTwoPlaces, MovesArePlain, PastIdMoves, plainGroup, PlainUnindexed, FirstGroupStops}
+use Rattle.opcodes.specs.Rules.{stopsOf, stopCell, trapCell, prebyteCell, runs, regular, column, movesMode, widths, Sixteens, SixteenBySixteen, CostsByOpcode, EveryCell, EveryInstruction, MovesHaveTwoPlaces, MovesArePlain, PastIdMoves, plainGroup, PlainUnindexed, FirstGroupStops, OneRti}
 use Rattle.opcodes.proofs.Postbytes.{one-of-five}
 
 -- a cell from its number
@@ -79,6 +79,7 @@ rules k =
     ∷ pick (ltb ID (c .mode)) (eqb (groupOf (c .kind)) MOVES) true
     ∷ pick (plainGroup (groupOf (c .kind))) (not (indexedOf c)) true
     ∷ pick (prebyteCell k) true (pick (eqb (groupOf (c .kind)) STOPS) (stopsOf c) true)
+    ∷ pick (eqb (c .kind) RTI) (eqb k 0x0B) true
     ∷ []
 
 -- the one test over the whole table
@@ -230,6 +231,14 @@ first-group-stops k free is = go (decLt k 512)
     go : Dec (k < 512) → stopsOf (cellOf k) ≡ true
     go (yes h) = sym (same-is true _ (rw (free, eq-eqb _ _ is) at (holds (rules k) (tested k h) 10)))
     go (no n) = rw (past-cells k (omega arith))
+
+pub one-rti : OneRti
+unfolding rules
+one-rti k is = go (decLt k 512)
+  where
+    go : Dec (k < 512) → k ≡ 0x0B
+    go (yes h) = eqb→eq _ _ (rw (eq-eqb _ _ is) at (holds (rules k) (tested k h) 11))
+    go (no n) = let none = rw (past-cells k (omega arith)) at is in absurd (omega (arith, none))
 
 pub costs-by-opcode : CostsByOpcode
 unfolding cellOf

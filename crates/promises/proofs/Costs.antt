@@ -2,13 +2,15 @@
 use Prim.Native.Nat.{ℕ, zero, suc, _+_, _<_}
 use native.Mathlib.Omega.{arith}
 use mathlib.Core.Path.{_≡_, refl, _∙_, ap}
-use mathlib.Core.Bool.{Bool, true, false, _||_}
+use mathlib.Core.Bool.{Bool, true, false, _&&_, _||_}
 use mathlib.Core.List.{List}
 use lib.Dec.{ltb, eqb}
-use borrow.Author.Tests.{eqb-false}
+use borrow.Author.Tests.{eqb-true, eqb-false}
 use Rattle.word.specs.Word.{pick}
+use Rattle.memory.specs.Memory.{byteAt}
 use Rattle.state.specs.declared.State.{State}
-use Rattle.opcodes.specs.Kind.{groupOf, memberOf, SHORT-BRANCHES, LONG-BRANCHES}
+use Rattle.state.specs.Ccr.{takeCcr}
+use Rattle.opcodes.specs.Kind.{RTI, groupOf, memberOf, SHORT-BRANCHES, LONG-BRANCHES}
 use Rattle.opcodes.specs.Rules.{stopsOf}
 use Rattle.codes.specs.Conditions.{conditionOf}
 use Rattle.decode.specs.declared.Decoded.{Decoded}
@@ -16,17 +18,17 @@ use Rattle.decode.specs.declared.Fetched.the-variants.{Stop, Reserved, Instruct
 use Rattle.decode.specs.Decode.{cellAt, afterOpcode, reservedAt, fetchedOf}
 use Rattle.effect.specs.declared.Effect.{Effect}
 use Rattle.effect.specs.Effect.{quiet}
-use Rattle.frames.specs.Frames.{interruptEffect, waitEffect}
+use Rattle.frames.specs.Frames.{interruptEffect, waitEffect, pulledFrame}
 use Rattle.flow.specs.Branches.{shortEffect, longEffect}
 use Rattle.machine.specs.declared.Reply.{Reply}
 use Rattle.machine.specs.declared.Reply.the-variants.{Done}
 use Rattle.machine.specs.Names.{numberOf, noLine, idleCost}
 use Rattle.machine.proofs.Laws.{number-zero}
-use Rattle.requests.specs.Requests.{allowedLine, entryEffect, wakeEffect}
-use Rattle.turn.specs.Turn.{executed, turnIs, instructed, turnOf}
+use Rattle.requests.specs.Requests.{allowedLine, entryEffect, wakeEffect, rtiEffect}
+use Rattle.turn.specs.Turn.{controlled, executed, turnIs, instructed, turnOf}
 use Rattle.walk.specs.Walk.{Before, IsBranch, Gives}
 use Rattle.walk.specs.Walk.IsBranch.{short, long}
-use Rattle.walk.specs.Walk.Gives.{stores, untaken, waits}
+use Rattle.walk.specs.Walk.Gives.{stores, untaken, waits, takes}
 use Rattle.walk.specs.Turns.{instructionAt}
 use Rattle.walk.proofs.Walk.{every-instruction-gives}
 use Rattle.refusals.specs.Given.{Given}
@@ -35,15 +37,21 @@ use Rattle.steps.specs.End.{endsHere}
 use Rattle.steps.specs.Steps.{turnEnd, turnAt}
 use Rattle.run.specs.Step.{stepOf}
 use Rattle.promises.specs.Steps.{afterSteps}
-use Rattle.promises.specs.Costs.{branchOf, figureOf, tabledInstruction, stepCost, tabledCost, tabledSum, AStepCostsWhatIsTabled, ASingleStepUsesWhatIsTabled, ARunUsesWhatIsTabled}
+use Rattle.promises.specs.Costs.{branchOf, figureOf, rtiTakes, tabledInstruction, stepCost, tabledCost, tabledSum, AStepCostsWhatIsTabled, ASingleStepUsesWhatIsTabled, ARunUsesWhatIsTabled}
 use Rattle.promises.proofs.Boundaries.{one-on}
 
--- an instruction that is no branch costs what was decoded
-gives-cost : {b : Before} {e : Effect} → Gives b e → (IsBranch (b .decoded) → ⊥) → e .cost ≡ b .decoded .cost
+-- an instruction that is no branch and not RTI costs what was decoded
+gives-cost :
+    {b : Before} {e : Effect} →
+    Gives b e →
+    (IsBranch (b .decoded) → ⊥) →
+    (b .decoded .kind ≡ RTI → ⊥) →
+    e .cost ≡ b .decoded .cost
 unfolding waitEffect
-gives-cost (stores w run) other = refl
-gives-cost (untaken w is) other = absurd (other is)
-gives-cost (waits w run) other = refl
+gives-cost (stores w run) other no-rti = refl
+gives-cost (untaken w is) other no-rti = absurd (other is)
+gives-cost (waits w run) other no-rti = refl
+gives-cost (takes w is) other no-rti = absurd (no-rti is)
 
 -- a group is not that of a test that failed
 not-branch : (d : Decoded) → (groupOf (d .kind) ≡ SHORT-BRANCHES → ⊥) → (groupOf (d .kind) ≡ LONG-BRANCHES → ⊥) → IsBranch d → ⊥
@@ -55,21 +63,52 @@ branch-cost : (taken : Bool) (e e′ : Effect) → pick taken e e′ .cost ≡ f
 branch-cost true e e′ = refl
 branch-cost false e e′ = refl
 
--- an instruction costs what was decoded, a branch by whether it is taken
-executed-cost :
-    (s : State) (m : List ℕ) (d : Decoded) →
-    executed s m d .cost ≡ figureOf (branchOf (d .kind)) (conditionOf (s .flags) (memberOf (d .kind))) (d .cost) (d .untaken)
+-- an instruction that is not RTI costs what was decoded, a branch by whether it is taken
+other-cost :
+    (s : State) (m : List ℕ) (line : ℕ) (d : Decoded) →
+    (d .kind ≡ RTI → ⊥) →
+    executed s m line d .cost ≡ figureOf (branchOf (d .kind)) (conditionOf (s .flags) (memberOf (d .kind))) (d .cost) (d .untaken)
 unfolding executed shortEffect longEffect
-executed-cost s m d = go (eqb (groupOf (d .kind)) SHORT-BRANCHES) (eqb (groupOf (d .kind)) LONG-BRANCHES) refl refl
+other-cost s m line d no-rti = go (eqb (groupOf (d .kind)) SHORT-BRANCHES) (eqb (groupOf (d .kind)) LONG-BRANCHES) refl refl
   where
     go :
         (b c : Bool) → eqb (groupOf (d .kind)) SHORT-BRANCHES ≡ b → eqb (groupOf (d .kind)) LONG-BRANCHES ≡ c →
-        executed s m d .cost ≡ figureOf (b || c) (conditionOf (s .flags) (memberOf (d .kind))) (d .cost) (d .untaken)
+        executed s m line d .cost ≡ figureOf (b || c) (conditionOf (s .flags) (memberOf (d .kind))) (d .cost) (d .untaken)
     go true c is other = rw is (branch-cost (conditionOf (s .flags) (memberOf (d .kind))) _ _)
     go false true other is = rw (other, is) (branch-cost (conditionOf (s .flags) (memberOf (d .kind))) _ _)
     go false false no-short no-long =
-        gives-cost (every-instruction-gives s m d)
+        gives-cost (every-instruction-gives s m line d)
         (not-branch d (eqb-false (groupOf (d .kind)) SHORT-BRANCHES no-short) (eqb-false (groupOf (d .kind)) LONG-BRANCHES no-long))
+        no-rti
+
+-- RTI costs 10 where it takes a request, and else what was decoded
+rti-cost :
+    (s : State) (m : List ℕ) (line : ℕ) (d : Decoded) →
+    d .kind ≡ RTI →
+    executed s m line d .cost ≡ pick (ltb (allowedLine (takeCcr (s .flags) (byteAt m (s .sp))) line) noLine) 10 (d .cost)
+unfolding executed controlled rtiEffect pulledFrame
+rti-cost s m line d is = rw is (either (ltb (allowedLine (takeCcr (s .flags) (byteAt m (s .sp))) line) noLine) _ _)
+  where
+    either : (b : Bool) (e e′ : Effect) → pick b e e′ .cost ≡ pick b (e .cost) (e′ .cost)
+    either true e e′ = refl
+    either false e e′ = refl
+
+executed-cost :
+    (s : State) (m : List ℕ) (line : ℕ) (d : Decoded) →
+    executed s m line d .cost
+    ≡ pick (eqb (d .kind) RTI && ltb (allowedLine (takeCcr (s .flags) (byteAt m (s .sp))) line) noLine) 10
+    (figureOf (branchOf (d .kind)) (conditionOf (s .flags) (memberOf (d .kind))) (d .cost) (d .untaken))
+executed-cost s m line d = go (eqb (d .kind) RTI) refl
+  where
+    go :
+        (b : Bool) → eqb (d .kind) RTI ≡ b →
+        executed s m line d .cost
+        ≡ pick (b && ltb (allowedLine (takeCcr (s .flags) (byteAt m (s .sp))) line) noLine) 10
+        (figureOf (branchOf (d .kind)) (conditionOf (s .flags) (memberOf (d .kind))) (d .cost) (d .untaken))
+    go true is =
+        let rti : d .kind ≡ RTI = eqb-true (d .kind) RTI is in
+        rti-cost s m line d rti ∙ rw rti
+    go false is = other-cost s m line d (eqb-false (d .kind) RTI is)
 
 -- a reply that is not 0 is not Done
 refused : {reply : Reply} {A : Type 0} → 0 < numberOf reply → reply ≡ Done → A
@@ -77,19 +116,20 @@ refused h e = let z = ap numberOf e in absurd (omega (arith, h, z))
 
 -- what stands at PC
 instructed-cost :
-    (s : State) (m : List ℕ) →
-    instructed s m (fetchedOf m (s .pc)) .reply ≡ Done →
-    instructed s m (fetchedOf m (s .pc)) .effect .cost ≡ tabledInstruction s m
+    (s : State) (m : List ℕ) (line : ℕ) →
+    instructed s m line (fetchedOf m (s .pc)) .reply ≡ Done →
+    instructed s m line (fetchedOf m (s .pc)) .effect .cost ≡ pick (rtiTakes s m line) 10 (tabledInstruction s m)
 unfolding instructed fetchedOf
-instructed-cost s m = go (stopsOf (cellAt m (s .pc))) (reservedAt m (cellAt m (s .pc)) (afterOpcode m (s .pc)))
+instructed-cost s m line = go (stopsOf (cellAt m (s .pc))) (reservedAt m (cellAt m (s .pc)) (afterOpcode m (s .pc)))
   where
     go :
         (st rs : Bool) →
-        instructed s m (pick st Stop (pick rs Reserved (Instruction (instructionAt m (s .pc))))) .reply ≡ Done →
-        instructed s m (pick st Stop (pick rs Reserved (Instruction (instructionAt m (s .pc))))) .effect .cost ≡ tabledInstruction s m
+        instructed s m line (pick st Stop (pick rs Reserved (Instruction (instructionAt m (s .pc))))) .reply ≡ Done →
+        instructed s m line (pick st Stop (pick rs Reserved (Instruction (instructionAt m (s .pc))))) .effect .cost
+        ≡ pick (rtiTakes s m line) 10 (tabledInstruction s m)
     go true rs done = refused (omega arith) done
     go false true done = refused (omega arith) done
-    go false false done = executed-cost _ m (instructionAt m (s .pc))
+    go false false done = executed-cost _ m line (instructionAt m (s .pc))
 
 pub a-step-costs-what-is-tabled : AStepCostsWhatIsTabled
 unfolding turnOf wakeEffect entryEffect interruptEffect
@@ -101,14 +141,14 @@ a-step-costs-what-is-tabled s m line = go (ltb k noLine) (s .standing .waiting)
     go :
         (b w : Bool) →
         pick b (pick w (turnIs Done (wakeEffect s m k)) (turnIs Done (entryEffect s m k)))
-        (pick w (turnIs Done (quiet s idleCost)) (instructed s m (fetchedOf m (s .pc)))) .reply ≡ Done →
+        (pick w (turnIs Done (quiet s idleCost)) (instructed s m line (fetchedOf m (s .pc)))) .reply ≡ Done →
         pick b (pick w (turnIs Done (wakeEffect s m k)) (turnIs Done (entryEffect s m k)))
-        (pick w (turnIs Done (quiet s idleCost)) (instructed s m (fetchedOf m (s .pc)))) .effect .cost
-        ≡ stepCost b w (tabledInstruction s m)
+        (pick w (turnIs Done (quiet s idleCost)) (instructed s m line (fetchedOf m (s .pc)))) .effect .cost
+        ≡ stepCost b w (pick (rtiTakes s m line) 10 (tabledInstruction s m))
     go true true done = refl
     go true false done = refl
     go false true done = refl
-    go false false done = instructed-cost s m done
+    go false false done = instructed-cost s m line done
 
 pub a-single-step-uses-what-is-tabled : ASingleStepUsesWhatIsTabled
 unfolding stepOf

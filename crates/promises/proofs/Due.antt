@@ -138,7 +138,7 @@ turn-number s m line =
         (b w st rs : Bool) →
         numberOf
         (pick b (pick w (turnIs Done (wakeEffect s m k)) (turnIs Done (entryEffect s m k)))
-        (pick w (turnIs Done (quiet s idleCost)) (instructed s m (pick st Stop (pick rs Reserved (Instruction (instructionAt m (s .pc))))))) .reply)
+        (pick w (turnIs Done (quiet s idleCost)) (instructed s m line (pick st Stop (pick rs Reserved (Instruction (instructionAt m (s .pc))))))) .reply)
         ≡ pick b 0 (pick w 0 (pick st 4 (pick rs 5 0)))
     go true true st rs = refl
     go true false st rs = refl

@@ -9,6 +9,7 @@ pub mod Boundaries
 pub mod Warning
 pub mod Lines
 pub mod Plain
+pub mod BackToBack
 pub mod Always
 pub mod Costs
 pub mod Exactly

@@ -1,37 +1,64 @@
 -- The mask X and the waiting flag under every step, on the definitions alone. Assumes nothing.
 use Prim.Native.Nat.{ℕ}
+use native.Mathlib.Omega.{arith}
 use mathlib.Core.Path.{_≡_, refl, sym, _∙_, ap}
 use mathlib.Core.Bool.{Bool, true, false, true≢false}
 use mathlib.Core.List.{List}
-use borrow.Author.Tests.{ne-eqb}
+use lib.Dec.{eqb}
+use borrow.Author.Tests.{ne-eqb, eqb-true, eqb-false}
 use Rattle.memory.specs.Memory.{noStore, storeNine}
 use Rattle.state.specs.declared.Flags.{Flags}
 use Rattle.state.specs.declared.Standing.{Standing}
 use Rattle.state.specs.declared.State.{State}
 use Rattle.effect.specs.declared.Effect.{Effect}
-use Rattle.frames.specs.Frames.{frameOf, interruptEffect, waitEffect}
+use Rattle.frames.specs.Frames.{frameOf, interruptEffect, waitEffect, pulledFrame}
 use Rattle.turn.specs.declared.Turn.{Turn}
 use Rattle.requests.specs.Requests.{allowedLine, masked, entryEffect, wakeEffect}
+use Rattle.requests.proofs.Laws.{xirq-by-x}
 use Rattle.turn.specs.Turn.{turnOf}
 use Rattle.walk.specs.Walk.{Before, Gives}
-use Rattle.walk.specs.Walk.Gives.{stores, untaken, waits}
+use Rattle.walk.specs.Walk.Gives.{stores, untaken, waits, takes}
 use Rattle.walk.specs.Turns.{Ways}
 use Rattle.walk.specs.Turns.Ways.{wakes, enters, idles, stops, reserves, runs}
 use Rattle.walk.proofs.Settings.{x-before, untouched}
 use Rattle.walk.proofs.Turns.{every-turn-goes}
-use Rattle.promises.specs.Masks.{XStaysClear, OnlyWaiWaits, AWaitKeeps}
-
--- X, after an instruction and after a turn, is set only where it was set before
-
-instruction-x : {b : Before} {e : Effect} → Gives b e → e .state .flags .x ≡ true → b .state .flags .x ≡ true
-unfolding waitEffect
-instruction-x (stores w run) = x-before w
-instruction-x (untaken w is) = x-before w
-instruction-x (waits w run) = x-before w
+use Rattle.promises.specs.Masks.{XStaysClear, RtiTakesXirqWithXSet, OnlyWaiWaits, AWaitKeeps}
 
 -- every line but line 0 leaves X as it is
 masked-x : (k : ℕ) (f : Flags) → (k ≡ 0 → ⊥) → masked k f .x ≡ f .x
 masked-x k f n = rw (ne-eqb k 0 n)
+
+-- XIRQ, where codes allow it and others do not, is masked in the others
+masked-there : (f g : Flags) (line : ℕ) → (allowedLine g line ≡ 0 → ⊥) → allowedLine f line ≡ 0 → g .x ≡ true
+masked-there f g line other taken = go (g .x) refl
+  where
+    go : (x : Bool) → g .x ≡ x → x ≡ true
+    go true is = refl
+    go false is = absurd (other (xirq-by-x f g line taken is))
+
+pub rti-takes-xirq-with-x-set : RtiTakesXirqWithXSet
+rti-takes-xirq-with-x-set s m line none = masked-there (pulledFrame s m .flags) (s .flags) line (λ e. omega (arith, none, e))
+
+-- X, after an instruction and after a turn, is set only where it was set before
+
+instruction-x :
+    {b : Before} {e : Effect} →
+    (allowedLine (b .state .flags) (b .line) ≡ 0 → ⊥) →
+    Gives b e →
+    e .state .flags .x ≡ true →
+    b .state .flags .x ≡ true
+unfolding waitEffect
+instruction-x other (stores w run) e = x-before w e
+instruction-x other (untaken w is) e = x-before w e
+instruction-x other (waits w run) e = x-before w e
+instruction-x {b} other (takes {s} w is) e = go (eqb k 0) refl
+  where
+    k : ℕ
+    k = allowedLine (s .flags) (b .line)
+
+    go : (xirq : Bool) → eqb k 0 ≡ xirq → b .state .flags .x ≡ true
+    go true is = masked-there (s .flags) (b .state .flags) (b .line) other (eqb-true k 0 is)
+    go false is = x-before w (sym (masked-x k (s .flags) (eqb-false k 0 is)) ∙ e)
 
 turn-x :
     {s : State} {m : List ℕ} {line : ℕ} {t : Turn} →
@@ -45,7 +72,7 @@ turn-x {s} other (enters up awake) e = sym (masked-x _ (s .flags) other) ∙ e
 turn-x other (idles none waiting) e = e
 turn-x other (stops none awake) e = e
 turn-x other (reserves none awake) e = e
-turn-x other (runs none awake there gives) e = instruction-x gives e
+turn-x other (runs none awake there gives) e = instruction-x other gives e
 
 pub x-stays-clear : XStaysClear
 x-stays-clear s m line other clear = go (turnOf s m line .effect .state .flags .x) refl
@@ -67,6 +94,7 @@ unfolding Framed waitEffect
 instruction-framed (stores w run) p q = absurd (still (ap (λ (p : Standing). p .waiting) (untouched w .standing)) p q)
 instruction-framed (untaken w is) p q = absurd (still (ap (λ (p : Standing). p .waiting) (untouched w .standing)) p q)
 instruction-framed (waits w run) p q = refl
+instruction-framed (takes w is) p q = absurd (still (ap (λ (p : Standing). p .waiting) (untouched w .standing)) p q)
 
 turn-framed : {s : State} {m : List ℕ} {line : ℕ} {t : Turn} → Ways s m line t → Framed s (t .effect)
 unfolding Framed wakeEffect entryEffect interruptEffect

@@ -43,7 +43,7 @@ use Rattle.turn.specs.declared.Turn.{Turn}
 use Rattle.turn.specs.Turn.{turnIs, controlled, withOperand, executed, instructed, turnOf}
 use Rattle.walk.proofs.Registers.{set-pc}
 use Rattle.promises.specs.Plain.{At, AtTwo, done, EnteredBy, EveryInterrupt, EveryReturn, EveryCost, EveryReset, EveryAddress, KeptButNZV, KeptButZ, EveryCode, EveryInstructionKeepsX, EveryUndefined}
-use Rattle.promises.proofs.Lines.{framed, entered-by, cellTurn, turn-one, turn-two, postbyteTurn, turn-postbyte, none-up}
+use Rattle.promises.proofs.Lines.{framed, entered-by, cellTurn, turn-one, turn-two, postbyteTurn, turn-postbyte, none-up, rti-alone}
 use Rattle.promises.proofs.Masks.{x-stays-clear}
 
 -- What a turn that is known leaves.
@@ -128,9 +128,9 @@ every-interrupt s m words whole =
 
 -- RTI.
 pub every-return : EveryReturn
-unfolding cellOf reservedOf costOf instructed executed controlled controlEffect pulledFrame
+unfolding pulledFrame
 every-return s m at =
-    let turn = turn-one s m 0x0B at refl in
+    let turn = rti-alone s m at in
     record {
       b = ap (λ t. ofState t .b) turn;
       a = ap (λ t. ofState t .a) turn;
@@ -252,11 +252,11 @@ place-kept s m at pc =
 -- an instruction that leaves the codes, whether its postbyte is reserved or not
 lea-kept :
     (s : State) (m : List ℕ) (c : Cell) (at : ℕ) → stopsOf c ≡ false →
-    executed (withPc s (decodedOf m (s .pc) c at .next)) m (decodedOf m (s .pc) c at) .state .flags ≡ s .flags →
+    executed (withPc s (decodedOf m (s .pc) c at .next)) m 0 (decodedOf m (s .pc) c at) .state .flags ≡ s .flags →
     ofFlags (cellTurn s m c at) ≡ s .flags
 unfolding instructed
 lea-kept s m c at on kept =
-    let Kept : Fetched → Type 0 = λ f. instructed s m f .effect .state .flags ≡ s .flags in
+    let Kept : Fetched → Type 0 = λ f. instructed s m 0 f .effect .state .flags ≡ s .flags in
     rw on (both Kept (reservedAt m c at) Reserved (Instruction (decodedOf m (s .pc) c at)) refl kept)
 
 pub every-code : EveryCode

@@ -15,11 +15,11 @@ use Rattle.turn.specs.declared.Turn.{Turn}
 use Rattle.requests.specs.Requests.{entryEffect, wakeEffect}
 use Rattle.walk.specs.Words.{Words}
 use Rattle.walk.specs.Walk.{Before, Fits, Gives}
-use Rattle.walk.specs.Walk.Gives.{stores, untaken, waits}
+use Rattle.walk.specs.Walk.Gives.{stores, untaken, waits, takes}
 use Rattle.walk.specs.Turns.{Ways}
 use Rattle.walk.specs.Turns.Ways.{wakes, enters, idles, stops, reserves, runs}
 use Rattle.walk.proofs.Registers.{Below, word-at, set-sp, set-pc, set-flags, set-waiting, set-clock}
-use Rattle.walk.proofs.Settings.{held}
+use Rattle.walk.proofs.Settings.{held, word-in}
 use Rattle.walk.proofs.Turns.{every-turn-goes, fits-at-pc}
 use Rattle.promises.specs.Words.{LeavesWords, EveryStepKeepsWords, EveryBoundaryHasWords}
 
@@ -38,6 +38,7 @@ instruction-leaves k (waits w run) =
       address = run .address k;
       bytes = run .bytes k;
     }
+instruction-leaves k (takes w is) = quiet-leaves (set-pc (set-flags (held w k)) (word-in k _))
 
 turn-leaves : {s : State} {m : List ℕ} {line : ℕ} {t : Turn} → Words s → Below 256 m → Ways s m line t → LeavesWords (t .effect)
 unfolding wakeEffect entryEffect interruptEffect

@@ -2,13 +2,14 @@
 -- name in proofs/Costs.antt. The tables are those of crates/opcodes/specs: the cells of the opcode map and the grid of costs.
 use Prim.Native.Nat.{ℕ, zero, suc, _+_}
 use mathlib.Core.Path.{_≡_}
-use mathlib.Core.Bool.{Bool, true, false, _||_}
+use mathlib.Core.Bool.{Bool, true, false, _&&_, _||_}
 use mathlib.Core.List.{List}
 use lib.Dec.{ltb, eqb}
 use Rattle.word.specs.Word.{pick}
 use Rattle.memory.specs.Memory.{byteAt}
 use Rattle.state.specs.declared.State.{State}
-use Rattle.opcodes.specs.Kind.{groupOf, memberOf, SHORT-BRANCHES, LONG-BRANCHES}
+use Rattle.state.specs.Ccr.{takeCcr}
+use Rattle.opcodes.specs.Kind.{RTI, groupOf, memberOf, SHORT-BRANCHES, LONG-BRANCHES}
 use Rattle.opcodes.specs.Postbyte.{costOf, untakenOf}
 use Rattle.codes.specs.Conditions.{conditionOf}
 use Rattle.decode.specs.Decode.{cellAt, afterOpcode}
@@ -37,6 +38,11 @@ tabledInstruction s m =
     (costOf cell (byteAt m (afterOpcode m (s .pc))))
     (untakenOf cell)
 
+-- RTI stands at PC, and the codes that it pulls, X under its rule, allow a request of the line byte
+abbrev pub rtiTakes : State → List ℕ → ℕ → Bool
+rtiTakes s m line =
+    eqb (cellAt m (s .pc) .kind) RTI && ltb (allowedLine (takeCcr (s .flags) (byteAt m (s .sp))) line) noLine
+
 -- The cost of a step, by whether a line is to be entered and whether the machine waits: the end of a wait, an entry, an idle cycle, and
 -- an instruction, which has the figure given.
 abbrev pub stepCost : Bool → Bool → ℕ → ℕ
@@ -45,9 +51,10 @@ stepCost true false instruction = 9
 stepCost false true instruction = 1
 stepCost false false instruction = instruction
 
--- the tabled cost of the step at a boundary
+-- The tabled cost of the step at a boundary. The figure of an RTI that takes a request is that of the second access detail of its row.
 abbrev pub tabledCost : State → List ℕ → ℕ → ℕ
-tabledCost s m line = stepCost (ltb (allowedLine (s .flags) line) noLine) (s .standing .waiting) (tabledInstruction s m)
+tabledCost s m line =
+    stepCost (ltb (allowedLine (s .flags) line) noLine) (s .standing .waiting) (pick (rtiTakes s m line) 10 (tabledInstruction s m))
 
 -- every step that is done costs what is tabled for it
 abbrev pub AStepCostsWhatIsTabled : Type 0

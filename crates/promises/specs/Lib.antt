@@ -6,6 +6,7 @@ pub mod Steps
 pub mod SetBack
 pub mod Masks
 pub mod Plain
+pub mod BackToBack
 pub mod Warning
 pub mod Always
 pub mod Costs

@@ -13,6 +13,7 @@ use Rattle.word.specs.Word.{plusW, minusW}
 use Rattle.memory.specs.Memory.{byteAt, wordAt}
 use Rattle.state.specs.declared.Flags.{Flags}
 use Rattle.state.specs.declared.State.{State}
+use Rattle.state.specs.Ccr.{setX, setI}
 use Rattle.state.specs.State.{withPc}
 use Rattle.effect.specs.declared.Effect.{Effect}
 use Rattle.machine.specs.declared.Reply.the-variants.{Done}
@@ -99,12 +100,17 @@ EveryEndOfAWait =
     s .standing .waiting ≡ true →
     Vectors s line (λ vector x. WokenBy vector x s m line)
 
--- where the masks let none through the turn is that with no line up
+-- the masks X and I let none of the line byte through
+pub record LetsNone (x i : Bool) (line : ℕ) : Type 0 where
+  pub xirq : x ≡ false → line % 2 ≡ 0
+  pub others : i ≡ false → line / 2 % 32 ≡ 0
+
+-- where the masks let none through, and RTI, 0B, pulls none that do, the turn is that with no line up
 abbrev pub EveryMaskedRequest : Type 0
 EveryMaskedRequest =
     (s : State) (m : List ℕ) (line : ℕ) →
-    (s .flags .x ≡ false → line % 2 ≡ 0) →
-    (s .flags .i ≡ false → line / 2 % 32 ≡ 0) →
+    LetsNone (s .flags .x) (s .flags .i) line →
+    (At s m 0x0B → LetsNone (done s m .state .flags .x) (done s m .state .flags .i) line) →
     turnOf s m line ≡ turnOf s m 0
 
 -- with no line up a machine that waits idles for a cycle
@@ -143,6 +149,28 @@ pub record Returned (s : State) (m : List ℕ) : Type 0 where
 
 abbrev pub EveryReturn : Type 0
 EveryReturn = (s : State) (m : List ℕ) → At s m 0x0B → Returned s m
+
+-- RTI that takes a request by a vector: the registers and the codes are those that it pulls with no line up, but for the masks that an
+-- entry sets; SP and every byte are as they were
+pub record TakenBy (vector : ℕ) (x-after : Bool) (s : State) (m : List ℕ) (line : ℕ) : Type 0 where
+  pub reply : turnOf s m line .reply ≡ Done
+  pub b : turnOf s m line .effect .state .b ≡ done s m .state .b
+  pub a : turnOf s m line .effect .state .a ≡ done s m .state .a
+  pub x : turnOf s m line .effect .state .x ≡ done s m .state .x
+  pub y : turnOf s m line .effect .state .y ≡ done s m .state .y
+  pub pc : turnOf s m line .effect .state .pc ≡ wordAt m vector
+  pub sp : turnOf s m line .effect .state .sp ≡ s .sp
+  pub codes : turnOf s m line .effect .state .flags ≡ setX (setI (done s m .state .flags) true) x-after
+  pub memory : turnMemory s m line ≡ m
+  pub cost : turnOf s m line .effect .cost ≡ 10
+
+-- so it is where the masks before RTI let none through, and those that it pulls let one: the lines as of an entry, by the pulled masks
+abbrev pub EveryReturnToARequest : Type 0
+EveryReturnToARequest =
+    (s : State) (m : List ℕ) (line : ℕ) →
+    At s m 0x0B →
+    LetsNone (s .flags .x) (s .flags .i) line →
+    Vectors (done s m .state) line (λ vector x. TakenBy vector x s m line)
 
 -- the cycles of WAI, of products and of quotients (003, the HCS12 column)
 pub record Costs (s : State) (m : List ℕ) : Type 0 where

@@ -1,13 +1,15 @@
--- The lowest line that is up goes first. Assumes nothing.
+-- The lowest line that is up goes first, and XIRQ is let in by X alone. Assumes nothing.
 use Prim.Native.Nat.{ℕ, _*_, _/_, _%_}
 use native.Mathlib.Omega.{arith}
-use mathlib.Core.Path.{_≡_, _∙_}
-use mathlib.Core.Bool.{Bool, true}
+use mathlib.Core.Path.{_≡_, refl, _∙_}
+use mathlib.Core.Bool.{Bool, true, false, _&&_, not}
 use lib.Dec.{T, eqb, eqb→eq}
 use borrow.Author.Tests.{eq-eqb}
-use Rattle.word.specs.Word.{pick}
+use Rattle.word.specs.Word.{pick, bitOf}
 use Rattle.word.proofs.Table.{everyBelow, at-number}
-use Rattle.requests.specs.Requests.{lowestLine, LowestFirst}
+use Rattle.state.specs.declared.Flags.{Flags}
+use Rattle.machine.specs.Names.{noLine}
+use Rattle.requests.specs.Requests.{lowestLine, LowestFirst, allowedLine}
 
 -- the bits from 1 to 5, as a number below 32, are those of the line byte
 five-bits :
@@ -46,3 +48,28 @@ lowest-first line =
       five = λ up. by-rest 32 16 5 tt line (omega (arith, up));
       none = λ up. by-rest 32 0 6 tt line (omega (arith, up));
     }
+
+-- XIRQ is none of the lines that I masks
+above-xirq : (line : ℕ) → lowestLine line ≡ 0 → ⊥
+above-xirq line = go (bitOf 1 line) (bitOf 2 line) (bitOf 3 line) (bitOf 4 line) (bitOf 5 line)
+  where
+    go : (b1 b2 b3 b4 b5 : Bool) → pick b1 1 (pick b2 2 (pick b3 3 (pick b4 4 (pick b5 5 noLine)))) ≡ 0 → ⊥
+    go true b2 b3 b4 b5 e = omega (arith, e)
+    go false true b3 b4 b5 e = omega (arith, e)
+    go false false true b4 b5 e = omega (arith, e)
+    go false false false true b5 e = omega (arith, e)
+    go false false false false true e = omega (arith, e)
+    go false false false false false e = omega (arith, e)
+
+-- where XIRQ is the line that some codes allow, it is the line that all codes allow in which X is clear
+pub xirq-by-x : (f g : Flags) (line : ℕ) → allowedLine f line ≡ 0 → g .x ≡ false → allowedLine g line ≡ 0
+unfolding allowedLine
+xirq-by-x f g line taken clear = go (bitOf 0 line) (f .x) (f .i) taken
+  where
+    go :
+        (up x i : Bool) →
+        pick (up && not x) 0 (pick i noLine (lowestLine line)) ≡ 0 →
+        pick (up && not (g .x)) 0 (pick (g .i) noLine (lowestLine line)) ≡ 0
+    go true x i e = rw clear
+    go false x true e = absurd (omega (arith, e))
+    go false x false e = absurd (above-xirq line e)

@@ -1,19 +1,20 @@
--- The lines of request: which is entered, and what an entry and the end of a wait do (docs/MACHINE.md, "Requests").
+-- The lines of request: which is entered, what an entry and the end of a wait do, and RTI, which may take a request itself
+-- (docs/MACHINE.md, "Requests").
 use Prim.Native.Nat.{ℕ, _/_, _%_}
 use mathlib.Core.Path.{_≡_}
 use mathlib.Core.Bool.{true, false, _&&_, not}
 use mathlib.Core.List.{List}
-use lib.Dec.{eqb}
+use lib.Dec.{ltb, eqb}
 use Rattle.word.specs.Word.{pick, bitOf}
 use Rattle.memory.specs.Memory.{wordAt}
 use Rattle.state.specs.declared.Flags.{Flags}
 use Rattle.state.specs.declared.State.{State}
 use Rattle.state.specs.Ccr.{setX, setI}
-use Rattle.state.specs.State.{withPc, withFlags, withWaiting}
+use Rattle.state.specs.State.{withSp, withPc, withFlags, withWaiting}
 use Rattle.effect.specs.declared.Effect.{Effect}
 use Rattle.effect.specs.Effect.{quiet}
-use Rattle.frames.specs.Frames.{interruptEffect}
-use Rattle.machine.specs.Names.{lineVector, noLine, entryCost, wakeCost}
+use Rattle.frames.specs.Frames.{interruptEffect, pulledFrame}
+use Rattle.machine.specs.Names.{lineVector, noLine, entryCost, wakeCost, returnAndEntryCost}
 
 -- The lowest line from 1 to 5 whose bit is set.
 abbrev pub lowestLine : ℕ → ℕ
@@ -45,6 +46,19 @@ masked k f = pick (eqb k 0) (setX (setI f true) true) (setI f true)
 unfoldable pub entryEffect : State → List ℕ → ℕ → Effect
 entryEffect s m k = interruptEffect s m (lineVector k) (masked k (s .flags)) entryCost
 
--- the end of a wait: the vector is read, the masks are set, nothing is pushed
+-- line k is taken and nothing is pushed, since the frame is in place: the masks are set, and PC is the word of the line's vector
+abbrev pub vectored : State → List ℕ → ℕ → State
+vectored s m k = withPc (withFlags s (masked k (s .flags))) (wordAt m (lineVector k))
+
+-- the end of a wait: WAI has pushed the frame
 unfoldable pub wakeEffect : State → List ℕ → ℕ → Effect
-wakeEffect s m k = quiet (withWaiting (withPc (withFlags s (masked k (s .flags))) (wordAt m (lineVector k))) false) wakeCost
+wakeEffect s m k = quiet (withWaiting (vectored s m k) false) wakeCost
+
+-- RTI (002, p. 6-177; 7.4.5, p. 7-5) under the line byte in force where it begins. The frame is pulled, and that byte is held against the
+-- masks that were pulled, X among them under its rule. Where they allow no request, this is all (the first access detail, uUUUUPPP). Where
+-- they allow one, it is taken in the same step (the second, uUUUUVfPPP): SP points at the frame again, which is left as it is.
+unfoldable pub rtiEffect : State → List ℕ → ℕ → ℕ → Effect
+rtiEffect s m line cost =
+    let t = pulledFrame s m in
+    let k = allowedLine (t .flags) line in
+    pick (ltb k noLine) (quiet (vectored (withSp t (s .sp)) m k) returnAndEntryCost) (quiet t cost)

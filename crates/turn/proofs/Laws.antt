@@ -31,9 +31,9 @@ use Rattle.turn.specs.Turn.{withOperand, placed, PlacedFirst, executed, 
 
 pub replies-as-fetched : RepliesAsFetched
 unfolding instructed
-replies-as-fetched s m Stop = refl
-replies-as-fetched s m Reserved = refl
-replies-as-fetched s m (Instruction d) = refl
+replies-as-fetched s m line Stop = refl
+replies-as-fetched s m line Reserved = refl
+replies-as-fetched s m line (Instruction d) = refl
 
 pub placed-first : PlacedFirst
 unfolding withOperand placed withAEffect withBEffect withWordEffect storeEffect inMemoryEffect addressEffect chooseEffect lookupEffect bitsEffect
@@ -50,13 +50,13 @@ there m pc is named told = sym (ap (λ (o : Opcode). groupOf (o .cell .kind)) is
 
 -- an instruction of a group without a postbyte that may be reserved
 pub bare-done :
-    (s : State) (m : List ℕ) {o : Opcode} {group : ℕ} →
+    (s : State) (m : List ℕ) (line : ℕ) {o : Opcode} {group : ℕ} →
     o ≡ opcodeAt m (s .pc) →
     group ≡ groupOf (o .cell .kind) →
     bareGroup group ≡ true →
-    instructed s m (fetchedOf m (s .pc)) ≡ ranOf s m (plainOf m (s .pc) o)
+    instructed s m line (fetchedOf m (s .pc)) ≡ ranOf s m line (plainOf m (s .pc) o)
 unfolding instructed
-bare-done s m {o} is named bare = rw (bare-fetched m (s .pc) o is (rw named at bare))
+bare-done s m line {o} is named bare = rw (bare-fetched m (s .pc) o is (rw named at bare))
 
 -- a transfer, and what else works on registers
 pub registers-free :
@@ -103,27 +103,27 @@ other g k out in-it = ne-eqb g k (λ e. true≢false (sym in-it ∙ (sym (ap unp
 
 -- what is done with an operand, by what was found of it
 pub operand-reserved :
-    (s : State) (m : List ℕ) {o : Opcode} {group : ℕ} {found : Found} →
+    (s : State) (m : List ℕ) (line : ℕ) {o : Opcode} {group : ℕ} {found : Found} →
     o ≡ opcodeAt m (s .pc) →
     group ≡ groupOf (o .cell .kind) →
     unplaced group ≡ false →
     found ≡ locatedOf s m (o .cell) (o .at) →
     found .reserved ≡ true →
-    instructed s m (fetchedOf m (s .pc)) ≡ turnIs ReservedPostbyte (quiet s 0)
+    instructed s m line (fetchedOf m (s .pc)) ≡ turnIs ReservedPostbyte (quiet s 0)
 unfolding instructed locatedOf
-operand-reserved s m {o} is named out located told =
+operand-reserved s m line {o} is named out located told =
     rw (operand-fetched m (s .pc) o is (rw named at out), rw located at told)
 
 pub operand-done :
-    (s : State) (m : List ℕ) {o : Opcode} {group : ℕ} {found : Found} →
+    (s : State) (m : List ℕ) (line : ℕ) {o : Opcode} {group : ℕ} {found : Found} →
     o ≡ opcodeAt m (s .pc) →
     group ≡ groupOf (o .cell .kind) →
     unplaced group ≡ false →
     found ≡ locatedOf s m (o .cell) (o .at) →
     found .reserved ≡ false →
-    instructed s m (fetchedOf m (s .pc)) ≡ turnIs Done (placed group (found .place) m (o .cell .kind) (found .cost))
+    instructed s m line (fetchedOf m (s .pc)) ≡ turnIs Done (placed group (found .place) m (o .cell .kind) (found .cost))
 unfolding instructed locatedOf executed
-operand-done s m {o} {group} is named out located told =
+operand-done s m line {o} {group} is named out located told =
     rw (
       operand-fetched m (s .pc) o is (rw named at out),
       rw located at told,

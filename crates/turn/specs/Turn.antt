@@ -8,7 +8,7 @@ use Rattle.word.specs.Word.{pick}
 use Rattle.state.specs.declared.State.{State}
 use Rattle.state.specs.Ccr.{setI}
 use Rattle.state.specs.State.{withPc}
-use Rattle.opcodes.specs.Kind.{SWI, TRAP, groupOf, SHORT-BRANCHES, LONG-BRANCHES, WITH-A, WITH-B, WITH-WORD, STORES, IN-MEMORY, IN-A, IN-B, REGISTERS, PRODUCTS, STACK, CONTROL, ADDRESSES, CHOICES, MOVES, LOOKUPS}
+use Rattle.opcodes.specs.Kind.{RTI, SWI, TRAP, groupOf, SHORT-BRANCHES, LONG-BRANCHES, WITH-A, WITH-B, WITH-WORD, STORES, IN-MEMORY, IN-A, IN-B, REGISTERS, PRODUCTS, STACK, CONTROL, ADDRESSES, CHOICES, MOVES, LOOKUPS}
 use Rattle.decode.specs.declared.Decoded.{Decoded}
 use Rattle.decode.specs.declared.Fetched.{Fetched}
 use Rattle.decode.specs.declared.Fetched.the-variants.{Stop, Reserved, Instruction}
@@ -34,13 +34,15 @@ use Rattle.machine.specs.declared.Reply.{Reply}
 use Rattle.machine.specs.declared.Reply.the-variants.{Done, Stopped, ReservedPostbyte}
 use Rattle.turn.specs.declared.Turn.{Turn}
 use Rattle.machine.specs.Names.{numberOf, swiVector, trapVector, noLine, idleCost}
-use Rattle.requests.specs.Requests.{allowedLine, entryEffect, wakeEffect}
+use Rattle.requests.specs.Requests.{allowedLine, entryEffect, wakeEffect, rtiEffect}
 
--- what changes the flow and has no operand in memory, with SWI (002, p. 6-196) and TRAP (6-205), which are entries by a vector and set I
-unfoldable pub controlled : State → List ℕ → Decoded → Effect
-controlled s m d =
+-- What changes the flow and has no operand in memory, with SWI (002, p. 6-196) and TRAP (6-205), which are entries by a vector and set I,
+-- and RTI (6-177). RTI alone asks for the line byte that is in force where it begins.
+unfoldable pub controlled : State → List ℕ → ℕ → Decoded → Effect
+controlled s m line d =
     pick (eqb (d .kind) SWI) (interruptEffect s m swiVector (setI (s .flags) true) (d .cost))
-    (pick (eqb (d .kind) TRAP) (interruptEffect s m trapVector (setI (s .flags) true) (d .cost)) (controlEffect s m d))
+    (pick (eqb (d .kind) TRAP) (interruptEffect s m trapVector (setI (s .flags) true) (d .cost))
+    (pick (eqb (d .kind) RTI) (rtiEffect s m line (d .cost)) (controlEffect s m d)))
 
 -- the groups whose instructions have an operand at a place in memory; the last is BITS
 unfoldable pub withOperand : ℕ → State → List ℕ → Decoded → Effect
@@ -73,9 +75,9 @@ PlacedFirst =
     (group : ℕ) (s : State) (m : List ℕ) (d : Decoded) →
     withOperand group s m d ≡ placed group (operandPlace s m (d .mode) (d .at)) m (d .kind) (d .cost)
 
--- an instruction, by its group; PC of the state is the address after it
-unfoldable pub executed : State → List ℕ → Decoded → Effect
-executed s m d =
+-- an instruction under a line byte, by its group; PC of the state is the address after it
+unfoldable pub executed : State → List ℕ → ℕ → Decoded → Effect
+executed s m line d =
     let group = groupOf (d .kind) in
     pick (eqb group SHORT-BRANCHES) (shortEffect s m d)
     (pick (eqb group LONG-BRANCHES) (longEffect s m d)
@@ -84,25 +86,25 @@ executed s m d =
     (pick (eqb group REGISTERS) (registersEffect s m d)
     (pick (eqb group PRODUCTS) (productEffect s m d)
     (pick (eqb group STACK) (stackEffect s m d)
-    (pick (eqb group CONTROL) (controlled s m d)
+    (pick (eqb group CONTROL) (controlled s m line d)
     (pick (eqb group MOVES) (moveEffect s m d) (withOperand group s m d)))))))))
 
 abbrev pub turnIs : Reply → Effect → Turn
 turnIs reply e = record { reply = reply; effect = e }
 
 -- an instruction: PC goes past the whole of it, and then it is done
-abbrev pub ranOf : State → List ℕ → Decoded → Turn
-ranOf s m d = turnIs Done (executed (withPc s (d .next)) m d)
+abbrev pub ranOf : State → List ℕ → ℕ → Decoded → Turn
+ranOf s m line d = turnIs Done (executed (withPc s (d .next)) m line d)
 
 -- what stands at PC: an instruction is done; else nothing is done, and the reply says why
-unfoldable pub instructed : State → List ℕ → Fetched → Turn
-instructed s m Stop = turnIs Stopped (quiet s 0)
-instructed s m Reserved = turnIs ReservedPostbyte (quiet s 0)
-instructed s m (Instruction d) = ranOf s m d
+unfoldable pub instructed : State → List ℕ → ℕ → Fetched → Turn
+instructed s m line Stop = turnIs Stopped (quiet s 0)
+instructed s m line Reserved = turnIs ReservedPostbyte (quiet s 0)
+instructed s m line (Instruction d) = ranOf s m line d
 
 -- Its reply has the number of what was fetched. Proved under the same name in proofs/Laws.antt.
 abbrev pub RepliesAsFetched : Type 0
-RepliesAsFetched = (s : State) (m : List ℕ) (f : Fetched) → numberOf (instructed s m f .reply) ≡ fetchedReply f
+RepliesAsFetched = (s : State) (m : List ℕ) (line : ℕ) (f : Fetched) → numberOf (instructed s m line f .reply) ≡ fetchedReply f
 
 -- The turn at a boundary: an entry or the end of a wait where a line is allowed, an idle cycle of a machine that waits, and else
 -- what stands at PC.
@@ -110,4 +112,4 @@ unfoldable pub turnOf : State → List ℕ → ℕ → Turn
 turnOf s m line =
     let k = allowedLine (s .flags) line in
     pick (ltb k noLine) (pick (s .standing .waiting) (turnIs Done (wakeEffect s m k)) (turnIs Done (entryEffect s m k)))
-    (pick (s .standing .waiting) (turnIs Done (quiet s idleCost)) (instructed s m (fetchedOf m (s .pc))))
+    (pick (s .standing .waiting) (turnIs Done (quiet s idleCost)) (instructed s m line (fetchedOf m (s .pc))))

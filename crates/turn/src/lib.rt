@@ -10,6 +10,7 @@ use opcodes::group;
 use opcodes::kind;
 use operand::Place;
 use state::State;
+ghost use Prim.Native.Nat.{ℕ};
 ghost use mathlib.Core.Path.{_≡_};
 ghost use mathlib.Core.Bool.{false};
 ghost use lib.ListN.{length};
@@ -30,10 +31,10 @@ pub struct Turn {
     pub effect: Effect,
 }
 
-fn controlled(s: State, m: &[u8], d: Decoded) -> Effect
+fn controlled(s: State, m: &[u8], line: u8, d: Decoded) -> Effect
     requires { ⌜ length (now m) ≡ 65536 ⌝ }
     requires { ⌜ Faithful (now m) d ⌝ }
-    ensures { λ r. ⌜ r ≡ controlledOf s (now (m .entry)) d ⌝ }
+    ensures { λ r. ⌜ r ≡ controlledOf s (now (m .entry)) line d ⌝ }
 {
     let f = s.flags;
     if d.kind == kind::SWI {
@@ -41,6 +42,9 @@ fn controlled(s: State, m: &[u8], d: Decoded) -> Effect
     }
     if d.kind == kind::TRAP {
         return frames::interrupt(s, m, Machine::TRAP_VECTOR, f.with_i(true), d.cost);
+    }
+    if d.kind == kind::RTI {
+        return requests::return_from_interrupt(s, m, line, d.cost);
     }
     flow::control(s, m, d)
 }
@@ -79,7 +83,7 @@ fn registers(s: State, m: &[u8], opcode: Opcode) -> Turn
     requires { ⌜ length (now m) ≡ 65536 ⌝ }
     requires { ⌜ opcode ≡ opcodeAt (now m) (s .pc) ⌝ }
     requires { ⌜ groupOf (opcode .cell .kind) ≡ REGISTERS ⌝ }
-    ensures { λ r. ⌜ r ≡ instructed s (now (m .entry)) (fetchedOf (now (m .entry)) (s .pc)) ⌝ }
+    ensures { λ r. ⌜ ((line : ℕ) → r ≡ instructed s (now (m .entry)) line (fetchedOf (now (m .entry)) (s .pc))) ⌝ }
 {
     let c = opcode.cell;
     let postbyte = memory::read_byte(m, opcode.at);
@@ -89,12 +93,12 @@ fn registers(s: State, m: &[u8], opcode: Opcode) -> Turn
     done(execute16::registers(past(s, c), c.kind, postbyte, c.cost))
 }
 
-// And so have the loop primitives.
-fn control(s: State, m: &[u8], opcode: Opcode) -> Turn
+// And so have the loop primitives. The line byte is RTI's.
+fn control(s: State, m: &[u8], line: u8, opcode: Opcode) -> Turn
     requires { ⌜ length (now m) ≡ 65536 ⌝ }
     requires { ⌜ opcode ≡ opcodeAt (now m) (s .pc) ⌝ }
     requires { ⌜ groupOf (opcode .cell .kind) ≡ CONTROL ⌝ }
-    ensures { λ r. ⌜ r ≡ instructed s (now (m .entry)) (fetchedOf (now (m .entry)) (s .pc)) ⌝ }
+    ensures { λ r. ⌜ r ≡ instructed s (now (m .entry)) line (fetchedOf (now (m .entry)) (s .pc)) ⌝ }
 {
     let c = opcode.cell;
     let postbyte = memory::read_byte(m, opcode.at);
@@ -103,7 +107,7 @@ fn control(s: State, m: &[u8], opcode: Opcode) -> Turn
     }
     let form = opcodes::form_of(postbyte);
     let d = decode::decoded_is(s.pc, c, opcode.at, postbyte, form, c.cost);
-    done(controlled(past(s, c), m, d))
+    done(controlled(past(s, c), m, line, d))
 }
 
 // A move: it alone may have two postbytes, and is fetched whole.
@@ -111,7 +115,7 @@ fn moved(s: State, m: &[u8], fetched: Fetched) -> Turn
     requires { ⌜ length (now m) ≡ 65536 ⌝ }
     requires { ⌜ fetched ≡ fetchedOf (now m) (s .pc) ⌝ }
     requires { ⌜ groupOf (cellAt (now m) (s .pc) .kind) ≡ MOVES ⌝ }
-    ensures { λ r. ⌜ r ≡ instructed s (now (m .entry)) fetched ⌝ }
+    ensures { λ r. ⌜ ((line : ℕ) → r ≡ instructed s (now (m .entry)) line fetched) ⌝ }
 {
     match fetched {
         Fetched::Stop => turn_is(Reply::Stopped, effect::quiet(s, 0)),
@@ -154,7 +158,7 @@ fn operands(grid: &[[u8; 8]; 18], group: u16, s: State, m: &[u8], opcode: Opcode
     requires { ⌜ opcode ≡ opcodeAt (now m) (s .pc) ⌝ }
     requires { ⌜ group ≡ groupOf (opcode .cell .kind) ⌝ }
     requires { ⌜ unplaced group ≡ false ⌝ }
-    ensures { λ r. ⌜ r ≡ instructed s (now (m .entry)) (fetchedOf (now (m .entry)) (s .pc)) ⌝ }
+    ensures { λ r. ⌜ ((line : ℕ) → r ≡ instructed s (now (m .entry)) line (fetchedOf (now (m .entry)) (s .pc))) ⌝ }
 {
     let c = opcode.cell;
     let found = operand::located(grid, s, m, c, opcode.at);
@@ -166,11 +170,11 @@ fn operands(grid: &[[u8; 8]; 18], group: u16, s: State, m: &[u8], opcode: Opcode
 }
 
 // What stands at PC. The group is chosen first, and then only what it needs is read and asked.
-fn at_pc(map: &[u32; 512], grid: &[[u8; 8]; 18], s: State, m: &[u8]) -> Turn
+fn at_pc(map: &[u32; 512], grid: &[[u8; 8]; 18], s: State, m: &[u8], line: u8) -> Turn
     requires { ⌜ now map ≡ opcodeMap ⌝ }
     requires { ⌜ now grid ≡ gridOf ⌝ }
     requires { ⌜ length (now m) ≡ 65536 ⌝ }
-    ensures { λ r. ⌜ r ≡ instructed s (now (m .entry)) (fetchedOf (now (m .entry)) (s .pc)) ⌝ }
+    ensures { λ r. ⌜ r ≡ instructed s (now (m .entry)) line (fetchedOf (now (m .entry)) (s .pc)) ⌝ }
 {
     let opcode = decode::opcode_at(map, m, s.pc);
     let c = opcode.cell;
@@ -200,7 +204,7 @@ fn at_pc(map: &[u32; 512], grid: &[[u8; 8]; 18], s: State, m: &[u8]) -> Turn
         )),
         group::STACK => done(stack::stack(past(s, c), m, c.kind, c.cost)),
         group::REGISTERS => registers(s, m, opcode),
-        group::CONTROL => control(s, m, opcode),
+        group::CONTROL => control(s, m, line, opcode),
         group::MOVES => moved(s, m, decode::fetch(map, grid, m, s.pc)),
         _ => operands(grid, group, s, m, opcode),
     }
@@ -225,5 +229,5 @@ pub fn turn_at(map: &[u32; 512], grid: &[[u8; 8]; 18], s: State, m: &[u8], line:
     if standing.waiting {
         return done(effect::quiet(s, Machine::IDLE_COST));
     }
-    at_pc(map, grid, s, m)
+    at_pc(map, grid, s, m, line)
 }

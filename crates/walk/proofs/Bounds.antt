@@ -29,7 +29,7 @@ use Rattle.walk.specs.Bounds.{EveryStepCosts, EveryStoreIsShort, EverySt
 use Rattle.walk.specs.Words.{Words}
 use Rattle.walk.specs.Walk.{Before, Fits, IsBranch, Gives}
 use Rattle.walk.specs.Walk.IsBranch.{short, long}
-use Rattle.walk.specs.Walk.Gives.{stores, untaken, waits}
+use Rattle.walk.specs.Walk.Gives.{stores, untaken, waits, takes}
 use Rattle.walk.specs.Turns.{instructionAt, Runs, atPc, Ways}
 use Rattle.walk.specs.Turns.Ways.{wakes, enters, idles, stops, reserves, runs}
 use Rattle.walk.proofs.Registers.{frame-whole}
@@ -77,7 +77,7 @@ record Good (e : Effect) : Type 0 where
   low : 1 ≤ e .cost
   high : e .cost ≤ 13
 
-instruction-good : {s : State} {m : List ℕ} {e : Effect} → AreBytes m → Runs m (s .pc) → Gives (atPc s m) e → Good e
+instruction-good : {s : State} {m : List ℕ} {line : ℕ} {e : Effect} → AreBytes m → Runs m (s .pc) → Gives (atPc s m line) e → Good e
 unfolding waitEffect
 instruction-good {s} {m} bytes there (stores w run) =
     let cell = bounded m (s .pc) bytes there in
@@ -87,6 +87,7 @@ instruction-good {s} {m} bytes there (untaken w is) =
 instruction-good {s} {m} bytes there (waits w run) =
     let cell = bounded m (s .pc) bytes there in
     record { low = cell .cost-low; high = cell .cost-high }
+instruction-good bytes there (takes w is) = record { low = omega arith; high = omega arith }
 
 -- a reply that is not 0
 refused : {reply : Reply} → 1 ≤ numberOf reply → reply ≡ Done → ⊥
@@ -116,6 +117,7 @@ unfolding waitEffect
 instruction-whole k (stores w run) = run .whole k
 instruction-whole k (untaken w is) = omega arith
 instruction-whole k (waits w run) = run .whole k
+instruction-whole k (takes w is) = omega arith
 
 turn-whole : {s : State} {m : List ℕ} {line : ℕ} {t : Turn} → Words s → AreBytes m → Ways s m line t → IsWhole (t .effect .store)
 unfolding wakeEffect entryEffect interruptEffect

@@ -18,7 +18,7 @@ use Rattle.turn.specs.declared.Turn.{Turn}
 use Rattle.requests.specs.Requests.{allowedLine, entryEffect, wakeEffect}
 use Rattle.turn.specs.Turn.{turnIs, instructed, turnOf}
 use Rattle.walk.specs.Walk.{Before, Gives}
-use Rattle.walk.specs.Walk.Gives.{stores, untaken, waits}
+use Rattle.walk.specs.Walk.Gives.{stores, untaken, waits, takes}
 use Rattle.walk.specs.Turns.{Ways}
 use Rattle.walk.specs.Turns.Ways.{wakes, enters, idles, stops, reserves, runs}
 use Rattle.walk.specs.Clock.{NoTurnMovesTheClock, atClock, NoInstructionReadsTheClock, NoTurnReadsTheClock}
@@ -31,6 +31,7 @@ unfolding waitEffect
 of-an-instruction (stores w run) = untouched w .clock
 of-an-instruction (untaken w is) = untouched w .clock
 of-an-instruction (waits w run) = untouched w .clock
+of-an-instruction (takes w is) = untouched w .clock
 
 of-a-turn : {s : State} {m : List ℕ} {line : ℕ} {t : Turn} → Ways s m line t → t .effect .state .clock ≡ s .clock
 unfolding wakeEffect entryEffect interruptEffect
@@ -45,7 +46,7 @@ pub no-turn-moves-the-clock : NoTurnMovesTheClock
 no-turn-moves-the-clock s m line = of-a-turn (every-turn-goes s m line)
 
 pub no-instruction-reads-the-clock : NoInstructionReadsTheClock
-no-instruction-reads-the-clock s m d c = every-instruction s m d c .same
+no-instruction-reads-the-clock s m line d c = every-instruction s m line d c .same
 
 -- a turn, and the same with another clock in its effect
 record Alike (c : ℕ) (t r : Turn) : Type 0 where
@@ -55,17 +56,17 @@ either : {c : ℕ} (b : Bool) {t t′ r r′ : Turn} → Alike c t r → Alike c
 either true first other = first
 either false first other = other
 
-at-pc : (s : State) (m : List ℕ) (c : ℕ) (f : Fetched) → Alike c (instructed s m f) (instructed (withClock s c) m f)
+at-pc : (s : State) (m : List ℕ) (line c : ℕ) (f : Fetched) → Alike c (instructed s m line f) (instructed (withClock s c) m line f)
 unfolding instructed
-at-pc s m c Stop = record { same = refl }
-at-pc s m c Reserved = record { same = refl }
-at-pc s m c (Instruction d) = record { same = ap (turnIs Done) (no-instruction-reads-the-clock (withPc s (d .next)) m d c) }
+at-pc s m line c Stop = record { same = refl }
+at-pc s m line c Reserved = record { same = refl }
+at-pc s m line c (Instruction d) = record { same = ap (turnIs Done) (no-instruction-reads-the-clock (withPc s (d .next)) m line d c) }
 
 of-every-turn : (s : State) (m : List ℕ) (line c : ℕ) → Alike c (turnOf s m line) (turnOf (withClock s c) m line)
 unfolding turnOf wakeEffect entryEffect interruptEffect
 of-every-turn s m line c =
     either (ltb (allowedLine (s .flags) line) noLine) (either (s .standing .waiting) (record { same = refl }) (record { same = refl }))
-    (either (s .standing .waiting) (record { same = refl }) (at-pc s m c (fetchedOf m (s .pc))))
+    (either (s .standing .waiting) (record { same = refl }) (at-pc s m line c (fetchedOf m (s .pc))))
 
 pub no-turn-reads-the-clock : NoTurnReadsTheClock
 no-turn-reads-the-clock s m line c = of-every-turn s m line c .same

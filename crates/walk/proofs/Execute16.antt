@@ -163,26 +163,26 @@ module _ {b : Before} {c : ℕ} {s : State} (w : Leads b c s (withClock s c)) wh
   unfolding accumulateEffect
   accumulating h = with-words (set-codes w refl) h (λ k. omega arith) (λ k. omega arith)
 
-module _ (s : State) (m : List ℕ) (d : Decoded) (c : ℕ) where
+module _ (s : State) (m : List ℕ) (line : ℕ) (d : Decoded) (c : ℕ) where
   abbrev b : Before
-  b = before s m d
+  b = before s m line d
 
   pub with-word-operand : Yielding b c s (λ z. withWordEffect z m d)
   unfolding withWordEffect
   with-word-operand =
-      let p = place s m d c in
+      let p = place s m line d c in
       rw (p .same) (quietly (words-done (p .state) (d .kind) (λ k. word-in k _)))
 
   pub store : Yielding b c s (λ z. storeEffect z m d)
   unfolding storeEffect
   store =
-      let p = place s m d c in
+      let p = place s m line d c in
       rw (p .same) (storing (p .state) (d .kind) (p .address))
 
   pub choose : Yielding b c s (λ z. chooseEffect z m d)
   unfolding chooseEffect
   choose =
-      let p = place s m d c in
+      let p = place s m line d c in
       rw (p .same) (choosing (p .state) (d .kind) (p .address))
 
   pub registers : Yielding b c s (λ z. registersEffect z m d)
@@ -199,5 +199,5 @@ module _ (s : State) (m : List ℕ) (d : Decoded) (c : ℕ) where
   pub look-up : Yielding b c s (λ z. lookupEffect z m d)
   unfolding lookupEffect
   look-up =
-      let p = place s m d c in
+      let p = place s m line d c in
       rw (p .same) (quietly (looking-up (p .state) (d .kind) _))

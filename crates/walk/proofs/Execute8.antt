@@ -12,9 +12,9 @@ use Rattle.walk.proofs.Codes.{accumulated-x, changed-x}
 use Rattle.walk.proofs.Settings.{Yielding, byte-in, start, fit, set-a, set-b, set-codes, quietly, with-byte, if_does_else_}
 use Rattle.walk.proofs.Places.{place}
 
-module _ (s : State) (m : List ℕ) (d : Decoded) (c : ℕ) where
+module _ (s : State) (m : List ℕ) (line : ℕ) (d : Decoded) (c : ℕ) where
   abbrev b : Before
-  b = before s m d
+  b = before s m line d
 
   abbrev member : ℕ
   member = memberOf (d .kind)
@@ -22,7 +22,7 @@ module _ (s : State) (m : List ℕ) (d : Decoded) (c : ℕ) where
   pub with-a : Yielding b c s (λ z. withAEffect z m d)
   unfolding withAEffect
   with-a =
-      let p = place s m d c in
+      let p = place s m line d c in
       let w = p .state in
       rw (p .same)
       (quietly (set-codes (set-a w (λ k. accumulated-byte member _ _ _ (fit w k .a) (byte-in k _))) (accumulated-x member _ _ _)))
@@ -30,7 +30,7 @@ module _ (s : State) (m : List ℕ) (d : Decoded) (c : ℕ) where
   pub with-b : Yielding b c s (λ z. withBEffect z m d)
   unfolding withBEffect
   with-b =
-      let p = place s m d c in
+      let p = place s m line d c in
       let w = p .state in
       rw (p .same)
       (quietly (set-codes (set-b w (λ k. accumulated-byte member _ _ _ (fit w k .b) (byte-in k _))) (accumulated-x member _ _ _)))
@@ -38,7 +38,7 @@ module _ (s : State) (m : List ℕ) (d : Decoded) (c : ℕ) where
   pub in-memory : Yielding b c s (λ z. inMemoryEffect z m d)
   unfolding inMemoryEffect memoryChanged
   in-memory =
-      let p = place s m d c in
+      let p = place s m line d c in
       rw (p .same)
       (if eqb (d .kind) TST does quietly (set-codes (p .state) (changed-x member _ _)) else
       with-byte (set-codes (p .state) (changed-x member _ _)) (p .address) (λ k. changed-byte member _ _ (byte-in k _)))

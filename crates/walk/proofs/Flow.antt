@@ -7,7 +7,7 @@ use mathlib.Core.Path.{_≡_, refl}
 use mathlib.Core.Bool.{Bool, true, false}
 use mathlib.Core.List.{List}
 use lib.Bits.{and-lt, or-lt}
-use lib.Dec.{eqb}
+use lib.Dec.{ltb, eqb}
 use Rattle.word.specs.Word.{minusW}
 use Rattle.memory.specs.Memory.{byteAt, wordAt}
 use Rattle.state.specs.declared.Flags.{Flags}
@@ -26,6 +26,8 @@ use Rattle.stack.specs.Stack.{subroutineEffect, returnEffect}
 use Rattle.frames.specs.Frames.{interruptEffect, pulledFrame}
 use Rattle.flow.specs.Branches.{branched, shortEffect, longEffect, looped, loopDone, loopEffect}
 use Rattle.flow.specs.Control.{controlEffect}
+use Rattle.machine.specs.Names.{noLine}
+use Rattle.requests.specs.Requests.{allowedLine, rtiEffect}
 use Rattle.moves.specs.Moves.{byteMoveEffect, wordMoveEffect, moveEffect}
 use Rattle.moves.specs.Addresses.{addressed, addressEffect}
 use Rattle.moves.specs.Bits.{bitsChanged, bitted, bitsEffect}
@@ -33,7 +35,7 @@ use Rattle.walk.specs.Walk.{Before, before, Fits, IsBranch}
 use Rattle.walk.proofs.Results.{counted-below}
 use Rattle.walk.proofs.Settings.{Leads, Leading, Yielding, byte-in, word-in, start, fit, d-fit}
 use Rattle.walk.proofs.Settings.{set-a, set-b, set-d, set-x, set-y, set-sp, set-pc, set-codes, take-codes}
-use Rattle.walk.proofs.Settings.{quietly, with-byte, with-word, with-frame, staying, waiting, if_does_else_}
+use Rattle.walk.proofs.Settings.{quietly, with-byte, with-word, with-frame, staying, waiting, taking, if_does_else_}
 use Rattle.walk.proofs.Places.{place, way}
 
 module _ {b : Before} {c : ℕ} {s : State} (w : Leads b c s (withClock s c)) where
@@ -137,9 +139,9 @@ module _ {b : Before} {c : ℕ} {s : State} (w : Leads b c s (withClock s c)) wh
       if eqb kind BRSET does branch w (allSet v mask) _ else
       branch w (allClear v mask) _
 
-module _ (s : State) (m : List ℕ) (d : Decoded) (c : ℕ) where
+module _ (s : State) (m : List ℕ) (line : ℕ) (d : Decoded) (c : ℕ) where
   abbrev b : Before
-  b = before s m d
+  b = before s m line d
 
   pub stack : Yielding b c s (λ z. stackEffect z m d)
   unfolding stackEffect
@@ -164,32 +166,38 @@ module _ (s : State) (m : List ℕ) (d : Decoded) (c : ℕ) where
   control =
       if eqb (d .kind) BSR does subroutine start (λ k. omega arith) else
       if eqb (d .kind) RTS does return start else
-      if eqb (d .kind) RTI does quietly (pulling start) else
       if eqb (d .kind) WAI does waiting start else
       loop
+
+  pub rti : d .kind ≡ RTI → Yielding b c s (λ z. rtiEffect z m line (d .cost))
+  unfolding rtiEffect pulledFrame
+  rti is =
+      let pulled = pulling start in
+      if ltb (allowedLine (pulledFrame s m .flags) line) noLine does taking (set-sp pulled (λ k. k .registers .sp)) is else
+      quietly pulled
 
   pub address : Yielding b c s (λ z. addressEffect z m d)
   unfolding addressEffect
   address =
-      let p = place s m d c in
+      let p = place s m line d c in
       rw (p .same) (addressing (p .state) (d .kind) (p .address))
 
   pub bits : Yielding b c s (λ z. bitsEffect z m d)
   unfolding bitsEffect
   bits =
-      let p = place s m d c in
+      let p = place s m line d c in
       rw (p .same) (on-bits (p .state) (d .kind) (p .address))
 
   move-byte : Yielding b c s (λ z. byteMoveEffect z m d)
   unfolding byteMoveEffect
   move-byte =
-      let p = way s m d c false in
+      let p = way s m line d c false in
       rw (p .same) (with-byte (p .state) (p .target) (λ k. byte-in k _))
 
   move-word : Yielding b c s (λ z. wordMoveEffect z m d)
   unfolding wordMoveEffect
   move-word =
-      let p = way s m d c true in
+      let p = way s m line d c true in
       rw (p .same) (with-word (p .state) (p .target) (λ k. word-in k _))
 
   pub move : Yielding b c s (λ z. moveEffect z m d)

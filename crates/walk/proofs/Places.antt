@@ -111,11 +111,11 @@ module _ {b : Before} {c : ℕ} where
 
 -- where the operand of an instruction lies, and where a move goes
 pub place :
-    (s : State) (m : List ℕ) (d : Decoded) (c : ℕ) →
-    Placed (before s m d) c (operandPlace s m (d .mode) (d .at)) (operandPlace (withClock s c) m (d .mode) (d .at))
-place s m d c = operand start (d .mode) (λ k. k .at)
+    (s : State) (m : List ℕ) (line : ℕ) (d : Decoded) (c : ℕ) →
+    Placed (before s m line d) c (operandPlace s m (d .mode) (d .at)) (operandPlace (withClock s c) m (d .mode) (d .at))
+place s m line d c = operand start (d .mode) (λ k. k .at)
 
 pub way :
-    (s : State) (m : List ℕ) (d : Decoded) (c : ℕ) (wide : Bool) →
-    Routed (before s m d) c (routeOf s m (d .mode) (d .at) wide) (routeOf (withClock s c) m (d .mode) (d .at) wide)
-way s m d c wide = route start (d .at) (d .mode) wide
+    (s : State) (m : List ℕ) (line : ℕ) (d : Decoded) (c : ℕ) (wide : Bool) →
+    Routed (before s m line d) c (routeOf s m (d .mode) (d .at) wide) (routeOf (withClock s c) m (d .mode) (d .at) wide)
+way s m line d c wide = route start (d .at) (d .mode) wide

@@ -15,11 +15,14 @@ use Rattle.state.specs.State.{withA, withB, withD, withX, withY, withSp, withPc
 use Rattle.state.proofs.Laws.{ccr-below}
 use Rattle.effect.specs.declared.Effect.{Effect}
 use Rattle.effect.specs.Effect.{quiet, writes}
+use Rattle.opcodes.specs.Kind.{RTI}
 use Rattle.frames.specs.Frames.{frameStore, waitEffect}
+use Rattle.machine.specs.Names.{returnAndEntryCost}
+use Rattle.requests.specs.Requests.{allowedLine, vectored}
 use Rattle.walk.specs.Words.{Words}
 use Rattle.walk.specs.Walk.{Before, Fits, Stores, Comes, IsBranch, Gives}
 use Rattle.walk.specs.Walk.Comes.{begins, sets-a, sets-b, sets-x, sets-y, sets-sp, sets-pc, sets-codes}
-use Rattle.walk.specs.Walk.Gives.{stores, untaken, waits}
+use Rattle.walk.specs.Walk.Gives.{stores, untaken, waits, takes}
 use Rattle.walk.specs.Clock.{atClock}
 use Rattle.walk.proofs.Registers as r
 
@@ -171,7 +174,7 @@ module _ {b : Before} {c : ℕ} where
       Yields b c (writes t (b .decoded .cost) (frameStore s)) (writes t′ (b .decoded .cost) (frameStore s))
   with-frame {s = s} v w = doing {run = frameStore s} w (frame-stored (v .comes))
 
-  -- a branch that is not taken, and a machine that waits
+  -- a branch that is not taken, a machine that waits, and a line that RTI takes
   pub staying :
       {s u : State} → Leads b c s u → IsBranch (b .decoded) →
       Yields b c (quiet s (b .decoded .untaken)) (quiet u (b .decoded .untaken))
@@ -180,6 +183,16 @@ module _ {b : Before} {c : ℕ} where
   pub waiting : {s u : State} → Leads b c s u → Yields b c (waitEffect s (b .decoded .cost)) (waitEffect u (b .decoded .cost))
   unfolding waitEffect
   waiting w = record { gives = waits (w .comes) (frame-stored (w .comes)); same = ap (λ z. waitEffect z (b .decoded .cost)) (w .same) }
+
+  pub taking :
+      {s u : State} → Leads b c s u → b .decoded .kind ≡ RTI →
+      Yields b c (quiet (vectored s (b .memory) (allowedLine (s .flags) (b .line))) returnAndEntryCost)
+      (quiet (vectored u (b .memory) (allowedLine (s .flags) (b .line))) returnAndEntryCost)
+  taking {s = s} w is =
+      record {
+        gives = takes (w .comes) is;
+        same = ap (λ z. quiet (vectored z (b .memory) (allowedLine (s .flags) (b .line))) returnAndEntryCost) (w .same);
+      }
 
   -- one of two states, and one of two effects
   infixr 0 if_then_else_

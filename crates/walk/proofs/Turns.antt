@@ -28,17 +28,17 @@ use Rattle.walk.proofs.Walk.{every-instruction-gives}
 -- what stands at PC
 at-pc :
     (s : State) (m : List ℕ) (line : ℕ) → NoneUp s line → s .standing .waiting ≡ false →
-    Ways s m line (instructed s m (fetchedOf m (s .pc)))
+    Ways s m line (instructed s m line (fetchedOf m (s .pc)))
 unfolding instructed fetchedOf
 at-pc s m line none awake =
     go (stopsOf (cellAt m (s .pc))) (reservedAt m (cellAt m (s .pc)) (afterOpcode m (s .pc))) refl refl
   where
     go :
         (st rs : Bool) → stopsOf (cellAt m (s .pc)) ≡ st → reservedAt m (cellAt m (s .pc)) (afterOpcode m (s .pc)) ≡ rs →
-        Ways s m line (instructed s m (pick st Stop (pick rs Reserved (Instruction (instructionAt m (s .pc))))))
+        Ways s m line (instructed s m line (pick st Stop (pick rs Reserved (Instruction (instructionAt m (s .pc))))))
     go true rs e f = stops none awake
     go false true e f = reserves none awake
-    go false false e f = runs none awake (record { on = e; free = f }) (every-instruction-gives _ m (instructionAt m (s .pc)))
+    go false false e f = runs none awake (record { on = e; free = f }) (every-instruction-gives _ m line (instructionAt m (s .pc)))
 
 pub every-turn-goes : EveryTurnGoes
 unfolding turnOf
@@ -51,14 +51,14 @@ every-turn-goes s m line = go (ltb k noLine) (s .standing .waiting) refl refl
         (b w : Bool) → ltb k noLine ≡ b → s .standing .waiting ≡ w →
         Ways s m line
         (pick b (pick w (turnIs Done (wakeEffect s m k)) (turnIs Done (entryEffect s m k)))
-        (pick w (turnIs Done (quiet s idleCost)) (instructed s m (fetchedOf m (s .pc)))))
+        (pick w (turnIs Done (quiet s idleCost)) (instructed s m line (fetchedOf m (s .pc)))))
     go true true up e = wakes (ltb-true k noLine up) e
     go true false up e = enters (ltb-true k noLine up) e
     go false true none e = idles (ltb-false k noLine none) e
     go false false none e = at-pc s m line (ltb-false k noLine none) e
 
 -- an instruction begins with what fits, where the registers and the memory do
-pub fits-at-pc : {s : State} {m : List ℕ} → Words s → Below 256 m → Fits (atPc s m)
+pub fits-at-pc : {s : State} {m : List ℕ} {line : ℕ} → Words s → Below 256 m → Fits (atPc s m line)
 fits-at-pc {s} {m} w bytes = record { registers = set-pc w (omega arith); bytes = bytes .at; at = after-opcode }
   where
     after-opcode : afterOpcode m (s .pc) < 65536

@@ -20,8 +20,8 @@ atClock e c = writes (withClock (e .state) c) (e .cost) (e .store)
 -- No instruction reads the clock: with another clock it has the same effect, but for that clock.
 abbrev pub NoInstructionReadsTheClock : Type 0
 NoInstructionReadsTheClock =
-    (s : State) (m : List ℕ) (d : Decoded) (c : ℕ) →
-    executed (withClock s c) m d ≡ atClock (executed s m d) c
+    (s : State) (m : List ℕ) (line : ℕ) (d : Decoded) (c : ℕ) →
+    executed (withClock s c) m line d ≡ atClock (executed s m line d) c
 
 -- Nor does any turn: what comes next at a boundary is the same at every clock, under the same line byte. The schedule alone asks for the
 -- clock.

@@ -28,8 +28,8 @@ pub record Runs (m : List ℕ) (pc : ℕ) : Type 0 where
   pub free : reservedAt m (cellAt m pc) (afterOpcode m pc) ≡ false
 
 -- what the instruction at PC begins with: PC goes past the whole of it first
-abbrev pub atPc : State → List ℕ → Before
-atPc s m = before (withPc s (instructionAt m (s .pc) .next)) m (instructionAt m (s .pc))
+abbrev pub atPc : State → List ℕ → ℕ → Before
+atPc s m line = before (withPc s (instructionAt m (s .pc) .next)) m line (instructionAt m (s .pc))
 
 -- a line is to be entered, or none is
 abbrev pub AnyUp : State → ℕ → Type 0
@@ -47,7 +47,7 @@ pub data Ways (s : State) (m : List ℕ) (line : ℕ) : Turn → Type 0 where
   stops : NoneUp s line → s .standing .waiting ≡ false → Ways s m line (turnIs Stopped (quiet s 0))
   reserves : NoneUp s line → s .standing .waiting ≡ false → Ways s m line (turnIs ReservedPostbyte (quiet s 0))
   runs :
-      {e : Effect} → NoneUp s line → s .standing .waiting ≡ false → Runs m (s .pc) → Gives (atPc s m) e →
+      {e : Effect} → NoneUp s line → s .standing .waiting ≡ false → Runs m (s .pc) → Gives (atPc s m line) e →
       Ways s m line (turnIs Done e)
 
 -- the law, proved under the same name in proofs/Turns.antt: every turn goes one of these ways

@@ -12,22 +12,25 @@ use Rattle.memory.specs.Memory.{bytesStored, IsWhole, AreBytes}
 use Rattle.state.specs.declared.Flags.{Flags}
 use Rattle.state.specs.declared.State.{State}
 use Rattle.state.specs.State.{withA, withB, withX, withY, withSp, withPc, withFlags}
-use Rattle.opcodes.specs.Kind.{groupOf, SHORT-BRANCHES, LONG-BRANCHES}
+use Rattle.opcodes.specs.Kind.{RTI, groupOf, SHORT-BRANCHES, LONG-BRANCHES}
 use Rattle.decode.specs.declared.Decoded.{Decoded}
 use Rattle.effect.specs.declared.Effect.{Effect}
 use Rattle.effect.specs.Effect.{quiet, writes}
 use Rattle.frames.specs.Frames.{frameStore, waitEffect}
+use Rattle.machine.specs.Names.{returnAndEntryCost}
+use Rattle.requests.specs.Requests.{allowedLine, vectored}
 use Rattle.turn.specs.Turn.{executed}
 use Rattle.walk.specs.Words.{Words}
 
--- what there is before an instruction is done: the state, whose PC is past it, the memory, and the instruction as it was decoded
+-- what there is before an instruction is done: the state, whose PC is past it, the memory, the line byte, and the instruction as it was decoded
 pub record Before : Type 0 where
   pub state : State
   pub memory : List ℕ
+  pub line : ℕ
   pub decoded : Decoded
 
-abbrev pub before : State → List ℕ → Decoded → Before
-before s m d = record { state = s; memory = m; decoded = d }
+abbrev pub before : State → List ℕ → ℕ → Decoded → Before
+before s m line d = record { state = s; memory = m; line = line; decoded = d }
 
 -- all of it holds what it has room for; the machine's types give that, and on plain numbers it has to be supposed
 pub record Fits (b : Before) : Type 0 where
@@ -59,12 +62,16 @@ pub data IsBranch (d : Decoded) : Type 0 where
   long : groupOf (d .kind) ≡ LONG-BRANCHES → IsBranch d
 
 -- The effects that an instruction can give: a state that it came to and a store, at the cost that was decoded; of a branch that is not
--- taken a state and no store, at a cost of its own; and of WAI the frame of a state, and a machine that waits.
+-- taken a state and no store, at a cost of its own; of WAI the frame of a state, and a machine that waits; and of RTI the line that the
+-- codes allow to which it came, taken from there with no store, at a cost of its own.
 pub data Gives (b : Before) : Effect → Type 0 where
   stores : {s : State} {w : Store} → Comes b s → Stores b w → Gives b (writes s (b .decoded .cost) w)
   untaken : {s : State} → Comes b s → IsBranch (b .decoded) → Gives b (quiet s (b .decoded .untaken))
   waits : {s : State} → Comes b s → Stores b (frameStore s) → Gives b (waitEffect s (b .decoded .cost))
+  takes :
+      {s : State} → Comes b s → b .decoded .kind ≡ RTI →
+      Gives b (quiet (vectored s (b .memory) (allowedLine (s .flags) (b .line))) returnAndEntryCost)
 
 -- every instruction gives such an effect
 abbrev pub EveryInstructionGives : Type 0
-EveryInstructionGives = (s : State) (m : List ℕ) (d : Decoded) → Gives (before s m d) (executed s m d)
+EveryInstructionGives = (s : State) (m : List ℕ) (line : ℕ) (d : Decoded) → Gives (before s m line d) (executed s m line d)

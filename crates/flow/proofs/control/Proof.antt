@@ -24,15 +24,11 @@ rts : tie.Need-returns-2
 unfolding controlEffect
 rts c = rw (c .before .match .keys2, c .returned .ensures)
 
-rti : tie.Need-returns-3
+wai : tie.Need-returns-3
 unfolding controlEffect
-rti c = rw (c .before .before .match .keys3, c .quiet .ensures, c .before .pulled-frame .ensures)
+wai c = rw (c .before .match .keys3, c .wait .ensures)
 
-wai : tie.Need-returns-4
-unfolding controlEffect
-wai c = rw (c .before .match .keys4, c .wait .ensures)
-
-loop : tie.Need-returns-5
+loop : tie.Need-returns-4
 unfolding controlEffect loopEffect
 loop c =
     let read = c .before in
@@ -41,7 +37,6 @@ loop c =
     let start = here .before .before in
     let no = here .match .rest in
     rw (
-      ne-eqb _ _ (no .0 .0 .0 .1),
       ne-eqb _ _ (no .0 .0 .1),
       ne-eqb _ _ (no .0 .1),
       ne-eqb _ _ (no .1),
@@ -63,10 +58,7 @@ control-spec =
     (λ c κs. search needs)
     (λ c κs. search needs)
     (λ c κs. search needs)
-    (λ c κs. search needs)
-    (λ c κs. search needs)
     bsr
     rts
-    rti
     wai
     loop)

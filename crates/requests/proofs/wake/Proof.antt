@@ -7,29 +7,7 @@ returns : tie.Need-returns
 unfolding wakeEffect
 returns c =
     let awake = c .before in
-    let gone = awake .before in
-    let flagged = gone .before in
-    let set = flagged .before in
-    let read = set .before in
-    rw (
-      c .quiet .ensures,
-      awake .with-waiting .ensures,
-      gone .with-pc .ensures,
-      flagged .with-flags .ensures,
-      set .masked .ensures,
-      read .read-word .ensures,
-      read .before .line-vector .ensures,
-    )
+    rw (c .quiet .ensures, awake .with-waiting .ensures, awake .before .vectored .ensures)
 
 pub wake-spec : {M : Type 1} → statement M
-wake-spec =
-    tie.close
-    (tie.spec
-    (λ c κs. search needs)
-    (λ c κs. search needs)
-    (λ c κs. search needs)
-    (λ c κs. search needs)
-    (λ c κs. search needs)
-    (λ c κs. search needs)
-    (λ c κs. search needs)
-    returns)
+wake-spec = tie.close (tie.spec (λ c κs. search needs) (λ c κs. search needs) (λ c κs. search needs) returns)

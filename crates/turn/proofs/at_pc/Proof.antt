@@ -84,7 +84,7 @@ short-branch-done c =
     let asked = told .before in
     let found = asked .before .before in
     rw (
-      bare-done _ _ (found .opcode-at .ensures) (asked .group-of .ensures) (rw (told .match .keys2)),
+      bare-done _ _ _ (found .opcode-at .ensures) (asked .group-of .ensures) (rw (told .match .keys2)),
       c .done .ensures,
       worked .short-branch .ensures,
       read .read-byte .ensures,
@@ -103,7 +103,7 @@ long-branch-done c =
     let asked = told .before in
     let found = asked .before .before in
     rw (
-      bare-done _ _ (found .opcode-at .ensures) (asked .group-of .ensures) (rw (told .match .keys3)),
+      bare-done _ _ _ (found .opcode-at .ensures) (asked .group-of .ensures) (rw (told .match .keys3)),
       c .done2 .ensures,
       worked .long-branch .ensures,
       read .read-word .ensures,
@@ -121,7 +121,7 @@ in-a-done c =
     let asked = told .before in
     let found = asked .before .before in
     rw (
-      bare-done _ _ (found .opcode-at .ensures) (asked .group-of .ensures) (rw (told .match .keys4)),
+      bare-done _ _ _ (found .opcode-at .ensures) (asked .group-of .ensures) (rw (told .match .keys4)),
       c .done3 .ensures,
       worked .in-a .ensures,
       past .past3 .ensures,
@@ -138,7 +138,7 @@ in-b-done c =
     let asked = told .before in
     let found = asked .before .before in
     rw (
-      bare-done _ _ (found .opcode-at .ensures) (asked .group-of .ensures) (rw (told .match .keys5)),
+      bare-done _ _ _ (found .opcode-at .ensures) (asked .group-of .ensures) (rw (told .match .keys5)),
       c .done4 .ensures,
       worked .in-b .ensures,
       past .past4 .ensures,
@@ -156,7 +156,7 @@ products-done c =
     let asked = told .before in
     let found = asked .before .before in
     rw (
-      bare-done _ _ (found .opcode-at .ensures) (asked .group-of .ensures) (rw (told .match .keys6)),
+      bare-done _ _ _ (found .opcode-at .ensures) (asked .group-of .ensures) (rw (told .match .keys6)),
       c .done5 .ensures,
       worked .products .ensures,
       built .decoded-is .ensures,
@@ -174,7 +174,7 @@ stack-done c =
     let asked = told .before in
     let found = asked .before .before in
     rw (
-      bare-done _ _ (found .opcode-at .ensures) (asked .group-of .ensures) (rw (told .match .keys7)),
+      bare-done _ _ _ (found .opcode-at .ensures) (asked .group-of .ensures) (rw (told .match .keys7)),
       c .done6 .ensures,
       worked .stack .ensures,
       past .past6 .ensures,
@@ -223,7 +223,7 @@ at-pc-spec =
     in-b-done
     products-done
     stack-done
+    (λ c. c .registers .ensures _)
     (λ c. search needs)
-    (λ c. search needs)
-    (λ c. rw (c .moved .ensures, c .before .fetch .ensures))
-    (λ c. search needs))
+    (λ c. rw (← (c .before .fetch .ensures)) (c .moved .ensures _))
+    (λ c. c .operands .ensures _))

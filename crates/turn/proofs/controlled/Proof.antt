@@ -22,14 +22,32 @@ trap c =
       masked .with-i2 .ensures,
     )
 
-control : tie.Need-returns-3
+rti : tie.Need-returns-3
+unfolding controlled
+rti c =
+    let third = c .before in
+    let second = third .before .before in
+    rw (
+      ne-eqb _ _ (second .before .before .if1 .left),
+      ne-eqb _ _ (second .if2 .left),
+      eq-eqb _ _ (third .if3 .taken),
+      c .return-from-interrupt .ensures,
+    )
+
+control : tie.Need-returns-4
 unfolding controlled
 control c =
-    let second = c .before in
-    rw (ne-eqb _ _ (second .before .before .if1 .left), ne-eqb _ _ (second .if2 .left), c .control .ensures)
+    let third = c .before in
+    let second = third .before .before in
+    rw (
+      ne-eqb _ _ (second .before .before .if1 .left),
+      ne-eqb _ _ (second .if2 .left),
+      ne-eqb _ _ (third .if3 .left),
+      c .control .ensures,
+    )
 
 asks : tie.Need-control-requires
-asks c κs = c .before .before .before .before .before .before .pre
+asks c κs = c .before .before .before .before .before .before .before .before .pre
 
 pub controlled-spec : {M : Type 1} → statement M
 controlled-spec =
@@ -41,5 +59,7 @@ controlled-spec =
     (λ c κs. search needs)
     (λ c κs. search needs)
     trap
+    (λ c κs. search needs)
+    rti
     asks
     control)

@@ -8,11 +8,11 @@ use Rattle.turn.proofs.moved.Tie as tie
 
 stop : tie.Need-returns
 unfolding instructed
-stop c = rw (c .before .before .enum-told .given .1, c .turn-is .ensures, c .before .quiet .ensures)
+stop c line = rw (c .before .before .enum-told .given .1, c .turn-is .ensures, c .before .quiet .ensures)
 
 refused : tie.Need-returns-2
 unfolding instructed
-refused c = rw (c .before .enum-told2 .given .1, c .reserved .ensures)
+refused c line = rw (c .before .enum-told2 .given .1, c .reserved .ensures)
 
 -- a move has the modes of one
 asks : tie.Need-moves-requires
@@ -25,7 +25,7 @@ asks c κs =
 
 done : tie.Need-returns-3
 unfolding instructed executed
-done c =
+done c line =
     let worked = c .before in
     let past = worked .before in
     let told = past .before .before in

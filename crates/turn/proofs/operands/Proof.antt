@@ -4,14 +4,14 @@ use Rattle.turn.proofs.operands.Statement.{statement}
 use Rattle.turn.proofs.operands.Tie as tie
 
 refused : tie.Need-returns
-refused c =
+refused c line =
     let told = c .before in
     let found = told .before in
     let asked = found .before .before .before .pre .1 .1 in
-    rw (c .reserved .ensures, operand-reserved _ _ (asked .0) (asked .1 .0) (asked .1 .1) (found .located .ensures) (told .if1 .taken))
+    rw (c .reserved .ensures, operand-reserved _ _ line (asked .0) (asked .1 .0) (asked .1 .1) (found .located .ensures) (told .if1 .taken))
 
 done : tie.Need-returns-2
-done c =
+done c line =
     let worked = c .before in
     let told = worked .before .before in
     let found = told .before in
@@ -19,7 +19,7 @@ done c =
     rw (
       c .done .ensures,
       worked .with-operand .ensures,
-      operand-done _ _ (asked .0) (asked .1 .0) (asked .1 .1) (found .located .ensures) (told .if1 .left),
+      operand-done _ _ line (asked .0) (asked .1 .0) (asked .1 .1) (found .located .ensures) (told .if1 .left),
     )
 
 pub operands-spec : {M : Type 1} → statement M

@@ -7,7 +7,7 @@ use Rattle.turn.proofs.registers.Tie as tie
 
 refused : tie.Need-returns
 unfolding instructed
-refused c =
+refused c line =
     let told = c .before in
     let asked = told .before in
     let read = asked .before .before in
@@ -19,7 +19,7 @@ refused c =
 
 done : tie.Need-returns-2
 unfolding instructed executed registersEffect
-done c =
+done c line =
     let worked = c .before in
     let past = worked .before in
     let told = past .before in
