@@ -261,6 +261,29 @@ fn handlers_one_after_another() {
     assert_eq!((bench.cpu.pc, bench.cpu.sp, bench.cpu.ccr), (0x6000, 0x3000, 0x80));
 }
 
+/// The example of docs/MACHINE.md, "RTI with a request waiting".
+#[test]
+fn the_example_of_the_rules() {
+    let mut bench = Bench::with(&[NOP]);
+    bench.put(0xFFF2, &[0x50, 0x00]);
+    bench.put(0x5000, &[NOP, RTI]);
+    (bench.cpu.ccr, bench.cpu.clock) = (0x00, 100);
+    let records = [Record { cycle: 100, lines: 0x02 }, Record { cycle: 125, lines: 0 }];
+    let steps = [
+        (9, 0x5000, 0x1FF7, 109),
+        (1, 0x5001, 0x1FF7, 110),
+        (10, 0x5000, 0x1FF7, 120),
+        (1, 0x5001, 0x1FF7, 121),
+        (10, 0x5000, 0x1FF7, 131),
+        (1, 0x5001, 0x1FF7, 132),
+        (8, 0x4000, 0x2000, 140),
+    ];
+    for (cycles, pc, sp, clock) in steps {
+        assert_eq!(bench.run(&records, cycles).cycles, cycles);
+        assert_eq!((bench.cpu.pc, bench.cpu.sp, bench.cpu.clock), (pc, sp, clock));
+    }
+}
+
 /// Each handler is left for that of the next line, while the frame stays that of the program.
 /// XIRQ comes first: after it X falls, and XIRQ would be entered before RTI.
 #[test]
