@@ -64,7 +64,8 @@ extern "C" {
  * schedule, whether it would come into force or not.
  *
  * The bits are levels: a request counts only while its bit is in the byte that is in force at a boundary between two steps, and nothing
- * is remembered of it. Of those that are up and not masked the lowest bit goes first.
+ * is remembered of it. Of those that are up and not masked the lowest bit goes first. An RTI that begins while a line is up which the
+ * codes in its frame let in takes that request at once, in one step of 10 cycles; else it comes back, in 8.
  */
 #define CPU12_XIRQ 0x01
 #define CPU12_IRQ 0x02

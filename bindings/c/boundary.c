@@ -1,6 +1,6 @@
 /*
- * The machine from C: every reply, every request line, every reserved byte, and every length of memory near 0 and near 65,536. Ends
- * with status 0 and one line. It is C99 and C++ alike.
+ * The machine from C: every reply, every request line, by an entry and by an RTI, every reserved byte, and every length of memory near 0
+ * and near 65,536. Ends with status 0 and one line. It is C99 and C++ alike.
  */
 #include "cpu12.h"
 
@@ -152,6 +152,53 @@ static void requests(void)
     }
 }
 
+static uint32_t run_under(uint8_t *state, uint8_t line, uint32_t budget)
+{
+    uint8_t record[CPU12_RECORD];
+
+    cpu12_set_record(record, 0, 0, line);
+    return cpu12_run(state, CPU12_STATE, memory, CPU12_MEMORY, record, sizeof record, budget);
+}
+
+/* What an operation at the handler's RTI has to leave; none of them writes a byte. */
+static void after_rti(const uint8_t *state, uint32_t cycles, uint16_t pc, uint16_t sp, uint8_t ccr)
+{
+    expect("cycles at RTI", cycles, cpu12_get_cycles(state));
+    expect("PC at RTI", pc, cpu12_get_pc(state));
+    expect("SP at RTI", sp, cpu12_get_sp(state));
+    expect("CCR at RTI", ccr, cpu12_get_ccr(state));
+    expect("A at RTI", 0x12, cpu12_get_a(state));
+    expect("bytes at RTI", 0, memcmp(memory, before, sizeof memory) != 0);
+}
+
+/* A handler, one RTI, that is left with its line up: it is taken again, in 10 cycles, and with 9 left that RTI is not begun. */
+static void returns(void)
+{
+    uint8_t state[CPU12_STATE];
+
+    for (int bit = 0; bit < LINES; bit++) {
+        uint8_t line = (uint8_t)CPU12_LINE(bit), handling = line == CPU12_XIRQ ? 0xD0 : 0x90;
+        begin(state, (const uint8_t *)"\xA7", 1);
+        cpu12_set_word(memory + CPU12_VECTOR(bit), 0x5678);
+        memory[0x5678] = 0x0B;
+        cpu12_set_sp(state, 0x2000);
+        cpu12_set_ccr(state, 0x80);
+        cpu12_set_a(state, 0x12);
+        expect("an entry", CPU12_DONE, step(state, line));
+        memcpy(before, memory, sizeof memory);
+        after_rti(state, 9, 0x5678, 0x1FF7, handling);
+        cpu12_set_a(state, 0); /* RTI pulls it */
+        expect("RTI with its line up", CPU12_DONE, step(state, line));
+        after_rti(state, 10, 0x5678, 0x1FF7, handling);
+        expect("RTI with 9 cycles left", CPU12_DONE, run_under(state, line, 9));
+        after_rti(state, 0, 0x5678, 0x1FF7, handling);
+        expect("RTI with 10 cycles left", CPU12_DONE, run_under(state, line, 10));
+        after_rti(state, 10, 0x5678, 0x1FF7, handling);
+        expect("RTI with its line down", CPU12_DONE, step(state, 0));
+        after_rti(state, 8, 0x4000, 0x2000, 0x80);
+    }
+}
+
 /* What a step under this byte gives, or a run over these records where there are any. A refusal has to leave all as it was. */
 static uint32_t kept(const uint8_t *lent, size_t n, const uint8_t *schedule, size_t records, uint8_t line, uint32_t budget)
 {
@@ -250,6 +297,7 @@ int main(void)
     refusals();
     fields();
     requests();
+    returns();
     lines();
     order_of_lines();
     for (size_t n = 0; n <= 3; n++)

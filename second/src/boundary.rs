@@ -1,8 +1,8 @@
 //! What comes next at a step boundary: an interrupt entry, the end of a wait, an idle
-//! cycle, an instruction, or one of the two refusals.
+//! cycle, an instruction, an RTI that finds another request, or one of the two refusals.
 
 use crate::cpu::{Cpu, I, X};
-use crate::glossary::execute;
+use crate::glossary::{execute, Operation};
 use crate::memory::{read16, read8, Writes};
 use crate::opcodes::{column_of, find, Cell, Cost, Form, Found, DIR, EXT, IDX, IMM};
 use crate::postbyte::{loop_parts, transfer_registers, Index};
@@ -12,6 +12,9 @@ use crate::step::Step;
 pub const ENTRY_COST: u32 = 9;
 /// Cost of the end of a wait: `fVfPPP` (000, second part of the WAI row).
 pub const WAIT_END_COST: u32 = 6;
+/// Cost of an RTI that finds another request after the pull: `uUUUUVfPPP` (002 p. 6-177, the
+/// second detail of RTI in 003, which also has ten letters). The eleven of 000 do not count.
+pub const RETURN_TO_REQUEST_COST: u32 = 10;
 /// A waiting machine without an allowed request spends one cycle.
 pub const IDLE_COST: u32 = 1;
 
@@ -21,7 +24,13 @@ pub enum Kind {
     Entry(u8),
     WaitEnd(u8),
     Idle,
-    Instruction { page: u8, opcode: u8 },
+    /// An RTI that pulls the registers and takes the vector of this line.
+    ReturnToRequest(u8),
+    /// Any other instruction, and an RTI that comes back.
+    Instruction {
+        page: u8,
+        opcode: u8,
+    },
 }
 
 /// A step worked out but not yet done.
@@ -55,7 +64,7 @@ pub fn next(cpu: &Cpu, memory: &[u8], lines: u8) -> Next {
     if cpu.waiting {
         return Next::Do(idle(cpu));
     }
-    instruction(cpu, memory)
+    instruction(cpu, memory, lines)
 }
 
 /// The lowest line that is up and not masked: XIRQ by X, the others by I.
@@ -66,30 +75,40 @@ fn allowed_request(cpu: &Cpu, lines: u8) -> Option<u8> {
     })
 }
 
-fn set_masks(cpu: &mut Cpu, line: u8) {
+/// PC and the masks of a handler. Memory is as it was when the step began, so a frame that
+/// the same step pushes over the vector changes nothing.
+fn go_to_handler(cpu: &mut Cpu, memory: &[u8], line: u8) {
+    cpu.pc = read16(memory, Cpu::request_vector(line));
     cpu.set_flag(I, true);
     if line == 0 {
         cpu.set_flag(X, true);
     }
 }
 
-/// The vector is read from memory as it was, so a frame over it changes nothing.
 fn entry(cpu: &Cpu, memory: &[u8], line: u8) -> Effect {
-    let vector = read16(memory, Cpu::request_vector(line));
     let mut step = Step::new(*cpu, memory, cpu.pc);
     step.push_frame();
-    set_masks(&mut step.cpu, line);
-    step.cpu.pc = vector;
+    go_to_handler(&mut step.cpu, memory, line);
     finish(Kind::Entry(line), step.cpu, step.writes, ENTRY_COST)
 }
 
-/// WAI has pushed the frame already; here the vector is read and the masks are set.
+/// WAI has pushed the frame already; the vector is read now.
 fn wait_end(cpu: &Cpu, memory: &[u8], line: u8) -> Effect {
     let mut after = *cpu;
-    after.pc = read16(memory, Cpu::request_vector(line));
     after.waiting = false;
-    set_masks(&mut after, line);
+    go_to_handler(&mut after, memory, line);
     finish(Kind::WaitEnd(line), after, Writes::default(), WAIT_END_COST)
+}
+
+/// RTI has pulled the registers, and a request is let in by the masks that it pulled. SP goes
+/// back to the CCR that was just recovered and the new vector is fetched, as if the registers
+/// had been stacked again; no byte is written, and the pulled PC stays in the frame alone
+/// (002 p. 6-177 and section 7.4.5, p. 7-5).
+fn return_to_request(pulled: Cpu, memory: &[u8], line: u8) -> Effect {
+    let mut after = pulled;
+    after.sp = after.sp.wrapping_sub(Cpu::FRAME);
+    go_to_handler(&mut after, memory, line);
+    finish(Kind::ReturnToRequest(line), after, Writes::default(), RETURN_TO_REQUEST_COST)
 }
 
 fn idle(cpu: &Cpu) -> Effect {
@@ -101,7 +120,9 @@ fn finish(kind: Kind, mut cpu: Cpu, writes: Writes, cost: u32) -> Effect {
     Effect { kind, cpu, writes, cost }
 }
 
-fn instruction(cpu: &Cpu, memory: &[u8]) -> Next {
+/// No request is let in before the instruction. The lines of this boundary matter to RTI
+/// alone: one that rises while RTI runs is found at the next boundary.
+fn instruction(cpu: &Cpu, memory: &[u8], lines: u8) -> Next {
     let found = find(memory, cpu.pc);
     if found.cell.cost == Cost::Stops {
         return Next::Stops;
@@ -113,6 +134,11 @@ fn instruction(cpu: &Cpu, memory: &[u8]) -> Next {
     step.cpu.pc = found.operands.wrapping_add(operand_length(memory, &found));
     step.take_operands(found.cell.form);
     execute(found.cell.operation, &mut step);
+    if found.cell.operation == Operation::RTI {
+        if let Some(line) = allowed_request(&step.cpu, lines) {
+            return Next::Do(return_to_request(step.cpu, memory, line));
+        }
+    }
     let cost = cost_of(memory, &found, step.taken);
     let kind = Kind::Instruction { page: found.page, opcode: found.opcode };
     Next::Do(finish(kind, step.cpu, step.writes, u32::from(cost)))

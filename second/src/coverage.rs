@@ -40,6 +40,7 @@ pub struct Coverage {
     replies: [u64; Reply::ALL.len()],
     entries: [u64; LINES],
     wait_ends: [u64; LINES],
+    returns: [u64; LINES],
     idle: u64,
 }
 
@@ -55,6 +56,7 @@ impl Default for Coverage {
             replies: [0; Reply::ALL.len()],
             entries: [0; LINES],
             wait_ends: [0; LINES],
+            returns: [0; LINES],
             idle: 0,
         }
     }
@@ -77,12 +79,18 @@ impl Coverage {
                 Kind::Entry(line) => self.entries[usize::from(line)] += 1,
                 Kind::WaitEnd(line) => self.wait_ends[usize::from(line)] += 1,
                 Kind::Idle => self.idle += 1,
-                Kind::Instruction { .. } => {
-                    self.meet_cell(&found);
-                    self.meet_form(memory, &found);
+                Kind::ReturnToRequest(line) => {
+                    self.returns[usize::from(line)] += 1;
+                    self.meet_instruction(memory, &found);
                 }
+                Kind::Instruction { .. } => self.meet_instruction(memory, &found),
             },
         }
+    }
+
+    fn meet_instruction(&mut self, memory: &[u8], found: &Found) {
+        self.meet_cell(found);
+        self.meet_form(memory, found);
     }
 
     /// A cell of page 2 is met together with the prebyte.
@@ -166,7 +174,9 @@ impl Coverage {
         }
         for line in 0..LINES {
             let (entries, ends) = (self.entries[line], self.wait_ends[line]);
-            lines.push(format!("line {} entries {} wait-ends {}", line, entries, ends));
+            let met =
+                format!("entries {} wait-ends {} returns {}", entries, ends, self.returns[line]);
+            lines.push(format!("line {} {}", line, met));
         }
         lines.push(format!("idle {}", self.idle));
         lines

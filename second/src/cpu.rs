@@ -34,6 +34,8 @@ impl Cpu {
     pub const XIRQ_VECTOR: u16 = 0xFFF4;
     /// The request lines: XIRQ, IRQ and four devices, bits 0 to 5 of a line byte.
     pub const LINES: u8 = 6;
+    /// The bytes of an interrupt frame (002 p. 6-196).
+    pub const FRAME: u16 = 9;
 
     /// The state that a reset leaves, with PC given by the caller.
     pub fn after_reset(pc: u16) -> Cpu {

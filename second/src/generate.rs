@@ -2,7 +2,10 @@
 //!
 //! Cell after cell is visited in a shuffled order, and each visit builds a case around
 //! one instruction of that cell: its bytes, registers that lie at the edges, a stack
-//! that may cover the code or the vectors, and, for a run, a short program after it.
+//! that may cover the code or the vectors, and, for a run, a short program after it. Some
+//! cases are built around an RTI instead.
+
+mod returns;
 
 use crate::case::{answer, Action, Case, Memories, MOST_OVERLAY};
 use crate::cpu::Cpu;
@@ -40,6 +43,8 @@ const CELLS: u32 = 512;
 /// The percentage of the line bytes of steps, and of schedules, that set a bit which is no
 /// line: enough to meet that refusal, and few enough to leave the others their cases.
 const WRONG_LINES: u32 = 6;
+/// The percentage of the steps and of the runs that are built around an RTI.
+const RETURNS: u32 = 5;
 /// The lowest vector of a request; the others lie above it, and that of the traps last.
 const LAST_VECTOR: u16 = Cpu::XIRQ_VECTOR - 2 * (Cpu::LINES as u16 - 1);
 
@@ -128,6 +133,9 @@ impl Generator {
     }
 
     fn step_case(&mut self) -> Case {
+        if self.random.chance(RETURNS) {
+            return self.return_step();
+        }
         let (page, opcode, visit) = self.next_cell();
         let mut draft = self.draft(page, opcode);
         if self.random.chance(20) {
@@ -155,6 +163,9 @@ impl Generator {
     }
 
     fn run_case(&mut self) -> Case {
+        if self.random.chance(RETURNS) {
+            return self.return_run();
+        }
         let (page, opcode, visit) = self.next_cell();
         let mut draft = self.draft(page, opcode);
         if self.random.chance(80) {

@@ -22,3 +22,4 @@ pub mod postbyte;
 pub mod random;
 pub mod step;
 pub mod sums;
+pub mod trace;

@@ -1,10 +1,10 @@
-//! The command line: `second cases`, `generate`, `coverage`, `cells`, `sums`, `bench`,
-//! `help`.
+//! The command line: `second cases`, `generate`, `coverage`, `trace`, `cells`, `sums`,
+//! `bench`, `help`.
 
 use second::case::{answer, Case, Memories};
 use second::coverage::Coverage;
 use second::generate::{Generator, Kind};
-use second::{bench, cells, memory, sums};
+use second::{bench, cells, memory, sums, trace};
 use std::io::{self, BufRead, BufWriter, Read, Write};
 use std::process::ExitCode;
 
@@ -16,6 +16,8 @@ second: a second emulator of the CPU12 (HCS12 edition)
                                     COUNT and SEED are decimal
   second coverage                   reads cases and reports which cells and address
                                     forms they meet; status 1 if one was not met
+  second trace                      prints the steps of the cases on standard input, and
+                                    an empty line after each case
   second cells                      prints the opcode map, one line a cell
   second sums                       prints a checksum of each 8-bit operation over all
                                     its operands
@@ -52,6 +54,7 @@ fn main() -> ExitCode {
         ["cases"] => cases(),
         ["generate", kind, count, seed] => generate(kind, count, seed),
         ["coverage"] => coverage(),
+        ["trace"] => traces(),
         ["cells"] => print_lines(&cells::lines()),
         ["sums"] => print_lines(&sums::lines()),
         ["bench"] => run_bench(),
@@ -83,7 +86,7 @@ fn misread(words: &[&str]) -> String {
     match words {
         [] => "a command is missing".to_string(),
         ["generate", ..] => "generate takes KIND, COUNT and SEED".to_string(),
-        [command @ ("cases" | "coverage" | "cells" | "sums" | "bench"), extra, ..] => {
+        [command @ ("cases" | "coverage" | "trace" | "cells" | "sums" | "bench"), extra, ..] => {
             format!("{} takes no argument: '{}'", command, extra)
         }
         [word, ..] if word.starts_with('-') => format!("there is no option '{}'", word),
@@ -200,6 +203,23 @@ fn coverage() -> Result<(), Failure> {
     } else {
         Err(Failure::Message(format!("{} cells or address forms were not met", missing.len())))
     }
+}
+
+/// A malformed case has no steps.
+fn traces() -> Result<(), Failure> {
+    let mut output = BufWriter::new(io::stdout().lock());
+    let mut memories = Memories::default();
+    let complaints = for_each_line(|case| {
+        if let Ok(case) = case {
+            for line in trace::lines(&case, &mut memories) {
+                writeln!(output, "{}", line)?;
+            }
+        }
+        writeln!(output)?;
+        Ok(())
+    })?;
+    output.flush()?;
+    complain(&complaints)
 }
 
 fn run_bench() -> Result<(), Failure> {

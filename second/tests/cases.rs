@@ -1,11 +1,15 @@
 //! The case format, the generator and the coverage report.
 
+mod common;
+
+use common::rti;
 use second::case::{answer, weighted_sum, Action, Case, Memories};
 use second::coverage::Coverage;
 use second::cpu::Cpu;
 use second::generate::{Generator, Kind};
 use second::machine::{lines_at, step, Outcome, Record, Reply};
 use second::memory::SIZE;
+use std::collections::BTreeSet;
 
 fn answer_line(line: &str) -> String {
     let case = Case::parse(line.as_bytes()).unwrap();
@@ -151,10 +155,11 @@ fn twenty_thousand_steps_meet_every_cell_and_form_evenly() {
     let report = coverage.report();
     let cells = counts(&report, "cell ");
     assert_eq!(cells.len(), 512);
-    // 39 visits each, of which some end in an entry, an idle cycle or a refusal. The
-    // prebyte is met with every cell of page 2.
+    // 37 visits each, of which some end in an entry, an idle cycle or a refusal. The
+    // prebyte is met with every cell of page 2, and RTI has cases of its own.
     for (number, &count) in cells.iter().enumerate() {
-        assert!(number == 0x18 || (8..=60).contains(&count), "cell {}: {}", number, count);
+        let often = matches!(number, 0x0B | 0x18);
+        assert!(often || (8..=60).contains(&count), "cell {}: {}", number, count);
     }
     // A single step never gives reply 2, but all the others.
     let replies = counts(&report, "reply ");
@@ -282,6 +287,34 @@ fn every_place_of_a_wrong_line_byte_is_generated() {
     assert!(first > 50 && last > 50 && past_limits > 50, "{first} {last} {past_limits}");
 }
 
+/// Of the cases, those that meet an RTI which takes a request or would take it, and all that
+/// they meet of RTI.
+fn returns(kind: Kind, count: usize, seed: u64) -> (usize, BTreeSet<rti::Met>) {
+    let (mut memories, mut all, mut taking) = (Memories::default(), BTreeSet::new(), 0);
+    for case in generated(kind, count, seed) {
+        let met = rti::met(&case, &mut memories);
+        let takes = |one: &rti::Met| matches!(one, rti::Met::Chain(_) | rti::Met::Left(_));
+        taking += usize::from(met.iter().any(takes));
+        all.extend(met);
+    }
+    (taking, all)
+}
+
+/// As many cases as ./test asks for. What they meet of masks is counted and not asked for by
+/// name: there are 1,024 ways, and the stored cases have them all.
+#[test]
+fn an_rti_that_takes_a_request_is_generated_often_and_in_every_way() {
+    let (steps, mut met) = returns(Kind::Step, 50_000, 31);
+    let (runs, met_by_runs) = returns(Kind::Run, 10_000, 37);
+    assert!(steps > 1_250 && runs > 500, "{} steps, {} runs", steps, runs);
+    met.extend(met_by_runs);
+    let is_of_masks = |met: &&rti::Met| matches!(met, rti::Met::Masks { .. });
+    let ways = met.iter().filter(is_of_masks).count();
+    assert!(ways > 400, "{} ways", ways);
+    let missing: Vec<rti::Met> = rti::all().difference(&met).copied().collect();
+    assert!(missing.iter().all(|met| is_of_masks(&met)), "{:?}", missing);
+}
+
 /// Runs that end at the edge of a step: with this budget and no more the last step is
 /// taken; with one cycle less it is not.
 #[test]
@@ -354,17 +387,24 @@ fn a_run_equals_its_steps() {
 fn x_once_clear_is_set_only_by_an_xirq_entry() {
     use second::boundary::{Kind as StepKind, Next};
     let mut memories = Memories::default();
+    let mut returns_to_xirq = 0;
     for case in generated(Kind::Mixed, 20_000, 13) {
         second::case::answer_watched(&case, &mut memories, &mut |cpu, _, next| {
             if let Next::Do(effect) = next {
                 let set = cpu.ccr & 0x40 == 0 && effect.cpu.ccr & 0x40 != 0;
                 let by_xirq = matches!(effect.kind, StepKind::Entry(0) | StepKind::WaitEnd(0));
                 assert_eq!(set, by_xirq);
+                // An RTI that takes XIRQ found X set, or XIRQ would have been entered before.
+                if effect.kind == StepKind::ReturnToRequest(0) {
+                    assert_eq!(cpu.ccr & 0x40, 0x40);
+                    returns_to_xirq += 1;
+                }
                 assert!((1..=13).contains(&effect.cost));
                 assert_eq!(effect.cpu.clock, cpu.clock + effect.cost);
             }
         });
     }
+    assert!(returns_to_xirq > 100, "{}", returns_to_xirq);
 }
 
 /// The condition codes that an instruction may change, by the tables of the glossary.
@@ -443,7 +483,7 @@ fn each_step_writes_its_own_bytes_and_no_others() {
             if let Next::Do(effect) = next {
                 let expected = match effect.kind {
                     StepKind::Entry(_) => 9,
-                    StepKind::WaitEnd(_) | StepKind::Idle => 0,
+                    StepKind::WaitEnd(_) | StepKind::Idle | StepKind::ReturnToRequest(_) => 0,
                     StepKind::Instruction { page, opcode } => {
                         bytes_written(&cell_at(page, opcode).operation.name())
                     }

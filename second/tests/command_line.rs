@@ -124,13 +124,14 @@ fn on_full_disk(arguments: &[&str], input: &str, full_error: bool) -> Output {
 #[test]
 fn output_that_cannot_be_written_is_an_error() {
     let cases = concat!(env!("CARGO_MANIFEST_DIR"), "/../crates/cases/stdin");
-    let commands: [&[&str]; 7] = [
+    let commands: [&[&str]; 8] = [
         &["help"],
         &["cells"],
         &["sums"],
         &["bench"],
         &["cases"],
         &["coverage"],
+        &["trace"],
         &["generate", "s", "10", "1"],
     ];
     for arguments in commands {
@@ -145,7 +146,7 @@ fn output_that_cannot_be_written_is_an_error() {
 
 #[test]
 fn input_that_cannot_be_read_is_an_error() {
-    for arguments in [["cases"], ["coverage"], ["bench"]] {
+    for arguments in [["cases"], ["coverage"], ["trace"], ["bench"]] {
         let output = Command::new(env!("CARGO_BIN_EXE_second"))
             .args(arguments)
             .stdin(std::fs::File::open("/").unwrap())
@@ -195,6 +196,20 @@ fn coverage_names_malformed_lines() {
     assert!(text(&output.stderr).contains("line 2:"));
 }
 
+/// NOP, an entry of IRQ, the handler's RTI while the line is up, and the same once more, for which
+/// nine cycles are too few. Then a stop, a reset and a line that is no case.
+#[test]
+fn trace_prints_every_step() {
+    let run =
+        "r 10000 0 5 4000 A7 FFF2 50 5000 B FFFE 40 4001 A7 0 0 0 0 2000 4000 0 0 64 1D 1 65 2";
+    let stop = "s 10000 0 0 0 0 0 0 0 4000 0 0 9 0";
+    let output = second(&["trace"], format!("{}\n{}\nz 0 0 0\nx\n", run, stop).as_bytes());
+    let steps = "64 4000 1 NOP\n65 4001 9 entry-1\n6E 5000 A RTI-to-1\n78 5000 A RTI-to-1 9\n";
+    assert_eq!(text(&output.stdout), format!("{}\n9 4000 0 stop\n\n\n\n", steps));
+    assert_eq!(output.status.code(), Some(1));
+    assert!(text(&output.stderr).contains("line 4:"));
+}
+
 #[test]
 fn cells_prints_the_map() {
     let output = second(&["cells"], b"");
@@ -222,7 +237,8 @@ fn bench_prints_one_line() {
 fn help_names_every_command() {
     for word in ["help", "--help", "-h"] {
         let output = second(&[word], b"");
-        for command in ["cases", "generate", "coverage", "cells", "sums", "bench", "help"] {
+        let commands = ["cases", "generate", "coverage", "trace", "cells", "sums", "bench", "help"];
+        for command in commands {
             assert!(text(&output.stdout).contains(&format!("second {}", command)));
         }
         assert_eq!((text(&output.stderr), output.status.code()), ("", Some(0)));

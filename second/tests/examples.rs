@@ -299,7 +299,8 @@ fn p6_185_sex_changes_a_only_for_d() {
 
 #[test]
 fn p7_4_clearing_x_by_andcc() {
-    // ANDCC #$BF lets XIRQ in; after the entry X and I are set; RTI restores them.
+    // ANDCC #$BF lets XIRQ in; after the entry X and I are set; RTI restores them, once the
+    // line has fallen.
     let mut bench = Bench::with(&[0x10, 0xBF, 0xA7]);
     bench.put(0xFFF4, &[0x50, 0x00]);
     bench.put(0x5000, &[0x0B]);
@@ -307,8 +308,21 @@ fn p7_4_clearing_x_by_andcc() {
     assert_eq!((bench.cpu.pc, bench.cpu.ccr), (0x4002, 0x90));
     assert_eq!(bench.step_under(1), 9);
     assert_eq!((bench.cpu.pc, bench.cpu.ccr), (0x5000, 0xD0));
-    assert_eq!(bench.step_under(1), 8);
+    assert_eq!(bench.step(), 8);
     assert_eq!((bench.cpu.pc, bench.cpu.ccr, bench.cpu.sp), (0x4002, 0x90, 0x2000));
+}
+
+#[test]
+fn p7_5_rti_with_another_interrupt_pending() {
+    // SP = SP - 9 and the new vector, in 10 cycles; else 8 and the return address.
+    for (lines, cycles, pc, sp) in [(0, 8, 0x6000, 0x2009), (2, 10, 0x5000, 0x2000)] {
+        let mut bench = Bench::with(&[0x0B]);
+        bench.put(0x2000, &[0xC0, 1, 2, 3, 4, 5, 6, 0x60, 0x00]);
+        bench.put(0xFFF2, &[0x50, 0x00]);
+        assert_eq!(bench.step_under(lines), cycles);
+        assert_eq!((bench.cpu.pc, bench.cpu.sp), (pc, sp));
+        assert_eq!((bench.cpu.d(), bench.cpu.x, bench.cpu.y), (0x0201, 0x0304, 0x0506));
+    }
 }
 
 #[test]

@@ -1,4 +1,4 @@
-//! Interrupt entries, masks, waiting, traps and the way back.
+//! Interrupt entries, masks, waiting and traps. RTI under requests is in `returns.rs`.
 
 mod common;
 
@@ -133,17 +133,6 @@ fn a_request_where_wai_would_begin_is_an_ordinary_entry() {
     bench.cpu.ccr = 0x00;
     assert_eq!(bench.step_under(0x04), 9);
     assert_eq!((bench.word(0x1FFE), bench.cpu.waiting), (0x4000, false));
-}
-
-#[test]
-fn a_request_after_rti_is_an_ordinary_entry() {
-    let mut bench = with_vectors(&[0x0B]);
-    bench.put(0x2000, &[0x00, 1, 2, 3, 4, 5, 6, 0x60, 0x00]);
-    bench.put(0x6000, &[0xA7]);
-    assert_eq!(bench.step_under(0x02), 8);
-    assert_eq!((bench.cpu.pc, bench.cpu.sp), (0x6000, 0x2009));
-    assert_eq!(bench.step_under(0x02), 9);
-    assert_eq!((bench.cpu.pc, bench.cpu.sp, bench.word(0x2007)), (0x5100, 0x2000, 0x6000));
 }
 
 #[test]

@@ -1,5 +1,9 @@
-//! The stored cases: their answers, and that the refused ones among them took no situation away.
+//! The stored cases: their answers, that the refused ones among them took no situation away, and
+//! that they have every way in which an RTI can meet requests.
 
+mod common;
+
+use common::rti;
 use second::boundary::{Kind, Next};
 use second::case::{answer, answer_watched, Action, Case, Memories};
 use second::cpu::{Cpu, I, X};
@@ -7,7 +11,7 @@ use second::machine::{lines_at, Reply};
 use second::memory::read8;
 use second::opcodes::{find, Form, Found};
 use second::postbyte::Index;
-use std::collections::HashSet;
+use std::collections::{BTreeSet, HashSet};
 
 const CASES: &str = concat!(env!("CARGO_MANIFEST_DIR"), "/../crates/cases/stdin");
 const ANSWERS: &str = concat!(env!("CARGO_MANIFEST_DIR"), "/../crates/cases/stdout");
@@ -40,6 +44,7 @@ enum What {
     Entry(u8),
     WaitEnd(u8),
     Idle,
+    ReturnToRequest(u8),
     Instruction(u8, u8, u8),
     Stops(u8, u8),
     Reserved(u8, u8, u8),
@@ -48,11 +53,12 @@ enum What {
 /// What is to be met. The letter is that of the case.
 #[derive(Clone, Copy, Debug, PartialEq, Eq, Hash)]
 enum Situation {
-    /// An entry, the end of a wait or an idle cycle, with the line byte and the masks.
+    /// An entry, the end of a wait, an idle cycle or an RTI that takes a request, with the line
+    /// byte and the masks.
     Requests(char, What, u8, u8),
     /// An instruction or its refusal, with a line up or with none.
     Program(char, What, bool),
-    /// Two steps one after the other, one of them an entry or the end of a wait.
+    /// Two steps one after the other, one of them an entry, the end of a wait or such an RTI.
     Pair(What, What),
     /// The line of an entry whose frame covers its vector, high byte or low, or the next
     /// instruction, or goes over the end of memory.
@@ -78,6 +84,7 @@ fn what(cpu: &Cpu, memory: &[u8], next: &Next) -> What {
             Kind::Entry(line) => What::Entry(line),
             Kind::WaitEnd(line) => What::WaitEnd(line),
             Kind::Idle => What::Idle,
+            Kind::ReturnToRequest(line) => What::ReturnToRequest(line),
             Kind::Instruction { .. } => What::Instruction(page, opcode, detail),
         },
     }
@@ -90,7 +97,7 @@ fn frame(cpu: &Cpu, line: u8) -> [bool; 4] {
 }
 
 fn is_request(what: What) -> bool {
-    matches!(what, What::Entry(_) | What::WaitEnd(_))
+    matches!(what, What::Entry(_) | What::WaitEnd(_) | What::ReturnToRequest(_))
 }
 
 /// Everything that a case meets on its way.
@@ -106,7 +113,7 @@ fn met(case: &Case, memories: &mut Memories) -> HashSet<Situation> {
         };
         let what = what(cpu, memory, next);
         met.insert(match what {
-            What::Entry(_) | What::WaitEnd(_) | What::Idle => {
+            What::Entry(_) | What::WaitEnd(_) | What::Idle | What::ReturnToRequest(_) => {
                 Situation::Requests(letter, what, lines, cpu.ccr & (X | I))
             }
             _ => Situation::Program(letter, what, lines != 0),
@@ -150,4 +157,13 @@ fn what_a_refused_case_would_meet_without_its_wrong_bits_another_case_meets() {
         let new: Vec<Situation> = met(&case, &mut memories).difference(&stored).copied().collect();
         assert!(new.is_empty(), "{:?}: {}", new, case);
     }
+}
+
+#[test]
+fn every_way_in_which_rti_can_meet_requests_is_stored() {
+    let mut memories = Memories::default();
+    let met: BTreeSet<rti::Met> =
+        cases().iter().flat_map(|case| rti::met(case, &mut memories)).collect();
+    let missing: Vec<rti::Met> = rti::all().difference(&met).copied().collect();
+    assert!(missing.is_empty(), "{:?}", missing);
 }

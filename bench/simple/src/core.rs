@@ -33,9 +33,17 @@ pub struct Core<'m> {
     pub flags: Flags,
     pub waiting: bool,
     pub clock: u32,
+    /// The line byte in force up to `look_at`. RTI holds it against the masks that it pulls.
+    pub line: u8,
     /// Before this clock value no boundary has anything but an instruction. An instruction
     /// that may change this sets it to 0.
     pub look_at: u32,
+}
+
+/// What becomes of a byte that goes into the CCR: X can fall but not rise.
+#[inline(always)]
+pub fn taken_ccr(value: u8, masks_before: u8) -> u8 {
+    value & (masks_before | !X)
 }
 
 impl<'m> Core<'m> {
@@ -51,6 +59,7 @@ impl<'m> Core<'m> {
             flags: Flags::unpack(cpu.ccr),
             waiting: cpu.waiting,
             clock: cpu.clock,
+            line: 0,
             look_at: 0,
         }
     }
@@ -92,11 +101,10 @@ impl<'m> Core<'m> {
         self.set_d(value as u16);
     }
 
-    /// A whole byte goes into the CCR. X can fall but not rise.
+    /// A whole byte goes into the CCR.
     #[inline(always)]
     pub fn set_ccr(&mut self, value: u8) {
-        let kept = self.flags.masks | !X;
-        self.flags.set(value & kept);
+        self.flags.set(taken_ccr(value, self.flags.masks));
         self.look_at = 0;
     }
 

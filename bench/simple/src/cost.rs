@@ -2,15 +2,16 @@
 //!
 //! A run asks only where its budget may be too short for the step; else the step itself counts.
 
-use crate::core::Memory;
+use crate::core::{taken_ccr, Memory};
 use crate::flags::Flags;
 use crate::operand::{fetch, first_byte};
-use crate::run::{open_lines, ENTRY_COST, IDLE_COST, WAIT_END_COST};
+use crate::run::{open_lines, ENTRY_COST, IDLE_COST, RETURN_TO_REQUEST_COST, WAIT_END_COST};
 use crate::tables::{loop_is_reserved, transfer_is_reserved, Cell, Form};
 use crate::tables::{LONG_UNTAKEN, PREBYTE, SHORT_UNTAKEN};
 use crate::{Cpu, Reply};
 
 const LOOP: u8 = 0x04;
+const RTI: u8 = 0x0B;
 const TRANSFER: u8 = 0xB7;
 
 /// The step that is next under a line byte.
@@ -19,19 +20,26 @@ pub fn cost_of_next(cpu: &Cpu, memory: &Memory, line: u8) -> Result<u32, Reply> 
         (true, true) => Ok(WAIT_END_COST),
         (true, false) => Ok(ENTRY_COST),
         (false, true) => Ok(IDLE_COST),
-        (false, false) => cost_at(memory, cpu.pc, cpu.ccr),
+        (false, false) => cost_at(memory, cpu, line),
     }
 }
 
-/// The instruction at PC.
+/// The instruction at PC, where no line is let in before it.
 #[cold]
-pub fn cost_at(memory: &Memory, pc: u16, ccr: u8) -> Result<u32, Reply> {
-    let flags = Flags::unpack(ccr);
-    let code = fetch(memory, pc);
+pub fn cost_at(memory: &Memory, cpu: &Cpu, line: u8) -> Result<u32, Reply> {
+    let flags = Flags::unpack(cpu.ccr);
+    let code = fetch(memory, cpu.pc);
     match first_byte(code) {
         PREBYTE => cost_on_page_2(code << 8, &flags),
+        RTI if returns_to_request(memory, cpu, line) => Ok(RETURN_TO_REQUEST_COST),
         _ => cost_on_page_1(code, &flags),
     }
+}
+
+/// Whether the masks that RTI would pull let a line in.
+fn returns_to_request(memory: &Memory, cpu: &Cpu, line: u8) -> bool {
+    let pulled = taken_ccr(memory[usize::from(cpu.sp)], cpu.ccr);
+    line & open_lines(pulled) != 0
 }
 
 fn cost_on_page_1(code: u64, flags: &Flags) -> Result<u32, Reply> {

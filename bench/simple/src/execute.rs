@@ -25,7 +25,7 @@ impl Core<'_> {
             0x07 => self.branch_to_subroutine(&mut step),
             0x08 => self.index[IX] = self.flags.z16(self.index[IX].wrapping_add(1)),
             0x09 => self.index[IX] = self.flags.z16(self.index[IX].wrapping_sub(1)),
-            0x0B => step.next = self.pull_frame(),
+            0x0B => self.return_from_interrupt(&mut step),
             0x0C => self.set_bits(address, step.take8()),
             0x0D => self.clear_bits(address, step.take8()),
             0x0E => self.branch_if_clear(!self.read8(address), &mut step),

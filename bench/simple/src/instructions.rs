@@ -3,6 +3,7 @@
 use crate::core::{Core, IX, IY, SP};
 use crate::flags::Flags;
 use crate::operand::Step;
+use crate::run::{open_lines, vector_of_lowest, RETURN_TO_REQUEST_COST};
 use crate::tables::{
     loop_is_reserved, transfer_is_reserved, Cell, Form, LONG_UNTAKEN, SHORT_UNTAKEN,
 };
@@ -157,6 +158,21 @@ impl Core<'_> {
         self.push_frame(return_address);
         self.waiting = true;
         self.look_at = 0;
+    }
+
+    /// RTI. Where the pulled masks let a line in, its handler comes next, and the frame stays as it
+    /// is for the handler's own RTI.
+    #[inline(always)]
+    pub fn return_from_interrupt(&mut self, step: &mut Step) {
+        let frame = self.index[SP];
+        step.next = self.pull_frame();
+        let let_in = self.line & open_lines(self.flags.masks);
+        if let_in != 0 {
+            self.index[SP] = frame;
+            self.mask_requests(let_in);
+            step.next = self.read16(vector_of_lowest(let_in));
+            step.cost = RETURN_TO_REQUEST_COST;
+        }
     }
 
     /// The register of a code in a postbyte, a byte without a sign.

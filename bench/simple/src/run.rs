@@ -10,6 +10,8 @@ use crate::{Cpu, Record, Reply};
 pub const ENTRY_COST: u32 = 9;
 pub const WAIT_END_COST: u32 = 6;
 pub const IDLE_COST: u32 = 1;
+/// An RTI that takes a request; any other has the cost of its cell.
+pub const RETURN_TO_REQUEST_COST: u32 = 10;
 
 /// The line of XIRQ; its mask is X, that of the other lines I.
 const XIRQ: u8 = 0x01;
@@ -50,6 +52,12 @@ pub fn open_lines(masks: u8) -> u8 {
     xirq | others
 }
 
+/// The vector of the lowest of these lines.
+#[inline(always)]
+pub fn vector_of_lowest(let_in: u8) -> u16 {
+    XIRQ_VECTOR - 2 * let_in.trailing_zeros() as u16
+}
+
 /// Steps until the clock is so near its end that the next step would pass it, or a refusal.
 pub fn run_until(end: u32, cpu: &mut Cpu, memory: &mut Memory, schedule: &[Record]) -> Reply {
     let mut index = Index::default();
@@ -75,7 +83,8 @@ impl Core<'_> {
     #[inline(always)]
     fn come_to_instruction(&mut self, lines: &mut Lines, end: u32) -> Result<(), Reply> {
         loop {
-            let let_in = lines.at(self.clock) & open_lines(self.flags.masks);
+            self.line = lines.at(self.clock);
+            let let_in = self.line & open_lines(self.flags.masks);
             if let_in != 0 {
                 self.enter_request(let_in, end - self.clock)?;
             } else if self.waiting {
@@ -85,7 +94,7 @@ impl Core<'_> {
             }
         }
         let left = end - self.clock;
-        if left < LONGEST && cost_at(self.memory, self.pc, self.flags.pack())? > left {
+        if left < LONGEST && cost_at(self.memory, &self.give(), self.line)? > left {
             return Err(Reply::Done);
         }
         self.look_at = lines.next_change().min(end.saturating_sub(LONGEST - 1));
@@ -99,21 +108,23 @@ impl Core<'_> {
         if cost > left {
             return Err(Reply::Done);
         }
-        let number = let_in.trailing_zeros();
-        let vector = XIRQ_VECTOR - 2 * number as u16;
+        let vector = vector_of_lowest(let_in);
         if self.waiting {
             // WAI has pushed the frame already.
             self.pc = self.read16(vector);
-            self.flags.masks |= I;
             self.waiting = false;
         } else {
             self.pc = self.enter(vector, self.pc);
         }
-        if number == 0 {
-            self.flags.masks |= X;
-        }
+        self.mask_requests(let_in);
         self.clock += cost;
         Ok(())
+    }
+
+    /// The masks of a handler: those of the lowest line that is let in.
+    #[inline(always)]
+    pub fn mask_requests(&mut self, let_in: u8) {
+        self.flags.masks |= if let_in & XIRQ == 0 { I } else { X | I };
     }
 
     /// The idle cycles up to a clock value at once: nothing changes before it.

@@ -1,4 +1,5 @@
-//! What random cases meet seldom: waits, schedules, budgets to the cycle, the end of memory.
+//! What random cases meet seldom: waits, schedules, budgets to the cycle, RTI under requests, the
+//! end of memory.
 
 use simple::{reset, run, step, Cpu, Outcome, Record, Reply};
 
@@ -160,6 +161,80 @@ fn a_request_is_entered_at_its_very_cycle() {
         // 75 cycles less 9 for the entry, 4 for INC and 8 for RTI.
         assert_eq!(cpu.pc, CODE + 54, "cycle {cycle}");
     }
+}
+
+/// RTI at $4000, with a frame at $2000 that has these codes and leads to NOPs at $4001.
+fn before_return(codes: u8, stacked: u8) -> (Cpu, Vec<u8>) {
+    let mut memory = image(&[RTI, NOP, NOP, NOP]);
+    put(&mut memory, 0x2000, &[stacked, 0xB0, 0xA0, 0x11, 0x12, 0x21, 0x22, 0x40, 0x01]);
+    (ready(CODE, codes, 0), memory)
+}
+
+#[test]
+fn rti_takes_a_request_that_the_pulled_masks_let_in() {
+    // Codes before, codes in the frame, lines; then the cycles, PC and the codes.
+    let cases = [
+        (0xD0, 0x85, 0x00, 8, CODE + 1, 0x85),
+        (0xD0, 0x85, 0x02, 10, IRQ_HANDLER, 0x95),
+        (0xD0, 0x85, 0x20, 10, IRQ_HANDLER, 0x95),
+        (0xD0, 0x85, 0x3F, 10, XIRQ_HANDLER, 0xD5),
+        (0xD0, 0x95, 0x01, 10, XIRQ_HANDLER, 0xD5),
+        (0xD0, 0x95, 0x3E, 8, CODE + 1, 0x95),
+        (0xD0, 0xC5, 0x01, 8, CODE + 1, 0xC5),
+        (0xD0, 0xC5, 0x03, 10, IRQ_HANDLER, 0xD5),
+        (0xD0, 0xD5, 0x3F, 8, CODE + 1, 0xD5),
+        // X stays clear whatever the frame has.
+        (0x90, 0xC5, 0x02, 10, IRQ_HANDLER, 0x95),
+        (0x90, 0xC5, 0x00, 8, CODE + 1, 0x85),
+    ];
+    for (codes, stacked, line, cycles, pc, ccr) in cases {
+        let (mut cpu, mut memory) = before_return(codes, stacked);
+        let before = memory.clone();
+        let outcome = step(&mut cpu, &mut memory, line);
+        assert_eq!(outcome, Outcome { reply: Reply::Done, cycles }, "{line:X} {stacked:X}");
+        assert_eq!((cpu.pc, cpu.ccr()), (pc, ccr), "{line:X} {stacked:X}");
+        assert_eq!(cpu.sp, if cycles == 10 { 0x2000 } else { 0x2009 });
+        assert_eq!((cpu.a, cpu.b, cpu.x, cpu.y), (0xA0, 0xB0, 0x1112, 0x2122));
+        assert!(memory == before);
+    }
+}
+
+#[test]
+fn a_request_that_is_let_in_before_rti_does_not_meet_it() {
+    let (mut cpu, mut memory) = before_return(0x90, 0x00);
+    assert_eq!(step(&mut cpu, &mut memory, 0x01).cycles, 9);
+    assert_eq!((cpu.pc, cpu.sp, memory[0x1FFE]), (XIRQ_HANDLER, 0x1FF7, 0x40));
+}
+
+/// The line byte counts where RTI begins, and RTI is whole or not begun.
+#[test]
+fn rti_under_lines_that_rise_and_fall_within_any_budget() {
+    let (cpu, memory) = before_return(0xD0, 0x05);
+    for budget in 0..60 {
+        for cycle in 0..14 {
+            both(&cpu, &memory, &[at(cycle, 0x04)], budget);
+            both(&cpu, &memory, &[at(0, 0x04), at(cycle + 1, 0)], budget);
+            both(&cpu, &memory, &[at(0, 0x21), at(cycle + 1, 0x02), at(cycle + 9, 0)], budget);
+        }
+    }
+    for budget in [8, 9] {
+        let (left, outcome) = both(&cpu, &memory, &[at(0, 0x04)], budget);
+        assert_eq!((left, outcome.reply, outcome.cycles), (cpu.clone(), Reply::Done, 0));
+    }
+    let (left, _) = both(&cpu, &memory, &[at(0, 0x04), at(1, 0)], 10);
+    assert_eq!((left.pc, left.clock), (IRQ_HANDLER, 10));
+    let (left, _) = both(&cpu, &memory, &[at(1, 0x04)], 17);
+    assert_eq!((left.pc, left.clock, left.sp), (IRQ_HANDLER, 17, 0x2000));
+}
+
+#[test]
+fn the_vector_of_rti_may_come_from_its_frame() {
+    // B and A of the frame lie over the vector of IRQ.
+    let (mut cpu, mut memory) = before_return(0xD0, 0x00);
+    cpu.sp = 0xFFF1;
+    put(&mut memory, cpu.sp, &[0x00, 0x12, 0x34]);
+    assert_eq!(step(&mut cpu, &mut memory, 0x02).cycles, 10);
+    assert_eq!((cpu.pc, cpu.sp, cpu.b, cpu.a), (0x1234, 0xFFF1, 0x12, 0x34));
 }
 
 /// Opens the masks and waits, again and again, with instructions of many costs between.

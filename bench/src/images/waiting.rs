@@ -52,8 +52,9 @@ const VECTOR: u16 = 0xFFF0;
 /// How often the device asks: two records each, and a schedule has 64.
 const REQUESTS: u32 = 32;
 
-/// How long the device's line is up. It has to be entered before it falls, and to fall before the handler is left.
-const UP: u32 = 12;
+/// How long the device's line is up. It has to be entered before it falls, and to fall before the handler's RTI begins, 10 cycles after
+/// it rose, which would take it again.
+const UP: u32 = 8;
 
 pub fn image(name: &'static str, budget: u32) -> Image {
     let apart = (budget / REQUESTS).max(2 * UP);

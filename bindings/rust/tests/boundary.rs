@@ -198,6 +198,56 @@ fn request_lines() {
     assert_eq!((all, all.count_ones() as usize), (lines::ALL, lines::VECTORS.len()));
 }
 
+/// A machine in a handler of one RTI, which this line was entered by; its frame at $1FF7 has A $12 and CCR $80 and leads to $4000.
+fn in_handler(line: u8, vector: u16) -> (Machine, Vec<u8>) {
+    let (_, mut memory) = at_4000(&[0xA7]);
+    memory[usize::from(vector)..][..2].copy_from_slice(&[0x56, 0x78]);
+    memory[0x5678] = 0x0B;
+    let mut state = state_at(0x4000, 0x80);
+    state.sp = 0x2000;
+    state.a = 0x12;
+    let mut machine = Machine::new(state);
+    assert_eq!(machine.step(&mut memory, line), Ok(9));
+    (machine, memory)
+}
+
+/// A handler that is left with its line up is taken again by its RTI, in 10 cycles; with fewer left that RTI is not begun.
+fn returns_to_requests() {
+    for (bit, &vector) in lines::VECTORS.iter().enumerate() {
+        let line = 1 << bit;
+        let (machine, memory) = in_handler(line, vector);
+        let mut bytes = memory.clone();
+        let handling = machine.state();
+        assert_eq!((handling.pc, handling.sp, handling.clock), (0x5678, 0x1FF7, 9));
+        assert_eq!(handling.ccr, if line == lines::XIRQ { 0xD0 } else { 0x90 });
+        // RTI pulls A, and leaves the rest as it is but for the clock.
+        let (mut other_a, mut taken) = (handling, handling);
+        other_a.a = 0;
+        taken.clock = 19;
+        let mut stepped = Machine::new(other_a);
+        assert_eq!(stepped.step(&mut bytes, line), Ok(10));
+        assert_eq!(stepped.state(), taken);
+        // The line may fall as soon as RTI has begun.
+        let up = [Record { cycle: 0, line }, Record { cycle: 10, line: 0 }];
+        for budget in 0..=10 {
+            let mut ran = Machine::new(other_a);
+            let (cycles, expected) = if budget < 10 { (0, other_a) } else { (10, taken) };
+            assert_eq!(ran.run(&mut bytes, &up, budget), Ok(cycles));
+            assert_eq!(ran.state(), expected, "budget {}", budget);
+        }
+        // With a line that rises while RTI runs it comes back, and the line is entered after it.
+        let mut back = Machine::new(other_a);
+        let rises = [Record { cycle: 10, line }];
+        assert_eq!(back.run(&mut bytes, &rises, 8), Ok(8));
+        assert_eq!((back.state().pc, back.state().sp, back.state().ccr), (0x4000, 0x2000, 0x80));
+        assert_eq!((back.state().a, back.state().clock), (0x12, 17));
+        assert_eq!(back.run(&mut bytes, &rises, 9), Ok(9));
+        taken.clock = 26;
+        assert_eq!(back.state(), taken);
+        assert!(bytes == memory, "no byte of the frame is another");
+    }
+}
+
 /// A step under this byte, and runs of which one record has it: the first of 64, the last, and one that no clock value comes to.
 /// A refusal leaves state and memory as they were, and 0 cycles used.
 fn numbers_under(line: u8, machine: &Machine, memory: &[u8], budget: u32) -> [u32; 4] {
@@ -383,6 +433,7 @@ pub extern "C" fn main(_count: c_int, _words: *const *const c_char) -> c_int {
     kept_records();
     unknown_numbers();
     request_lines();
+    returns_to_requests();
     wrong_lines();
     wrong_lines_by_bytes();
     stops();

@@ -226,7 +226,7 @@ pub fn rorb(s: &mut Step) {
 // RTC, 002 p. 6-176, stops the machine.
 
 /// RTI, 002 p. 6-177: CCR, B, A, X, Y and PC in the order in which they lie. X may fall
-/// but never rise.
+/// but never rise. Another request that is found then is the boundary's.
 pub fn rti(s: &mut Step) {
     let codes = s.pull8();
     s.cpu.write_codes(codes);

@@ -1,6 +1,8 @@
 //! A bench for tests: registers and memory that can be set up in a line or two.
 #![allow(dead_code)]
 
+pub mod rti;
+
 use second::cpu::Cpu;
 use second::machine::{run, step, Outcome, Record, Reply};
 
