@@ -27,7 +27,7 @@ use Rattle.effect.specs.Effect.{quiet}
 use Rattle.frames.specs.Frames.{frameOf, frameStore, interruptEffect, pulledFrame}
 use Rattle.machine.specs.declared.Reply.the-variants.{Done}
 use Rattle.machine.specs.Names.{lineVector, noLine, idleCost}
-use Rattle.requests.proofs.Laws.{lowest-first}
+use Rattle.requests.proofs.Laws.{lowest-first, returns-taking, returns-plainly}
 use Rattle.requests.specs.Requests.{lowestLine, allowedLine, masked, entryEffect, vectored, wakeEffect, rtiEffect}
 use Rattle.turn.specs.declared.Turn.{Turn}
 use Rattle.turn.specs.Turn.{controlled, executed, turnIs, instructed, turnOf}
@@ -239,16 +239,16 @@ pub rti-plain :
     (s : State) (m : List ℕ) (line : ℕ) → At s m 0x0B → noLine ≤ allowedLine (s .flags) line →
     noLine ≤ allowedLine (pulledFrame s m .flags) line →
     turnOf s m line ≡ turnIs Done (quiet (pulledFrame s m) 8)
-unfolding rtiEffect pulledFrame
-rti-plain s m line at none shut = rti-turn s m line at none ∙ rw (le-ltb _ _ shut)
+unfolding pulledFrame
+rti-plain s m line at none shut = rti-turn s m line at none ∙ ap (turnIs Done) (returns-plainly (withPc s (plusW (s .pc) 1)) m line 8 refl refl shut)
 
 pub rti-taken :
     (s : State) (m : List ℕ) (line : ℕ) → At s m 0x0B → noLine ≤ allowedLine (s .flags) line →
     allowedLine (pulledFrame s m .flags) line < noLine →
     turnOf s m line
     ≡ turnIs Done (quiet (vectored (withSp (pulledFrame s m) (s .sp)) m (allowedLine (pulledFrame s m .flags) line)) 10)
-unfolding rtiEffect pulledFrame
-rti-taken s m line at none up = rti-turn s m line at none ∙ rw (lt-ltb _ _ up)
+unfolding pulledFrame
+rti-taken s m line at none up = rti-turn s m line at none ∙ ap (turnIs Done) (returns-taking (withPc s (plusW (s .pc) 1)) m line 8 refl refl up)
 
 -- with no line up
 pub rti-alone : (s : State) (m : List ℕ) → At s m 0x0B → turnOf s m 0 ≡ turnIs Done (quiet (pulledFrame s m) 8)

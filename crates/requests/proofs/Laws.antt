@@ -1,15 +1,21 @@
--- The lowest line that is up goes first, and XIRQ is let in by X alone. Assumes nothing.
-use Prim.Native.Nat.{ℕ, _*_, _/_, _%_}
+-- The lowest line that is up goes first, XIRQ is let in by X alone, and RTI by its two cases. Assumes nothing.
+use Prim.Native.Nat.{ℕ, _*_, _/_, _%_, _<_, _≤_}
 use native.Mathlib.Omega.{arith}
-use mathlib.Core.Path.{_≡_, refl, _∙_}
+use mathlib.Core.Path.{_≡_, refl, sym, _∙_, ap}
 use mathlib.Core.Bool.{Bool, true, false, _&&_, not}
-use lib.Dec.{T, eqb, eqb→eq}
-use borrow.Author.Tests.{eq-eqb}
+use mathlib.Core.List.{List}
+use lib.Dec.{T, eqb, eqb→eq, ltb}
+use borrow.Author.Tests.{eq-eqb, lt-ltb, le-ltb}
 use Rattle.word.specs.Word.{pick, bitOf}
 use Rattle.word.proofs.Table.{everyBelow, at-number}
 use Rattle.state.specs.declared.Flags.{Flags}
-use Rattle.machine.specs.Names.{noLine}
-use Rattle.requests.specs.Requests.{lowestLine, LowestFirst, allowedLine}
+use Rattle.state.specs.declared.State.{State}
+use Rattle.state.specs.State.{withSp}
+use Rattle.effect.specs.declared.Effect.{Effect}
+use Rattle.effect.specs.Effect.{quiet}
+use Rattle.frames.specs.Frames.{pulledFrame}
+use Rattle.machine.specs.Names.{noLine, returnAndEntryCost}
+use Rattle.requests.specs.Requests.{lowestLine, LowestFirst, allowedLine, vectored, rtiEffect}
 
 -- the bits from 1 to 5, as a number below 32, are those of the line byte
 five-bits :
@@ -73,3 +79,20 @@ xirq-by-x f g line taken clear = go (bitOf 0 line) (f .x) (f .i) taken
     go true x i e = rw clear
     go false x true e = absurd (omega (arith, e))
     go false x false e = absurd (above-xirq line e)
+
+-- RTI, by whether the masks that were pulled allow a line
+module _ (s : State) (m : List ℕ) (line cost : ℕ) {t : State} {k : ℕ} (pulled : t ≡ pulledFrame s m) (allowed : k ≡ allowedLine (t .flags) line) where
+  abbrev by : State → ℕ → Bool → Effect
+  by u j takes = pick takes (quiet (vectored (withSp u (s .sp)) m j) returnAndEntryCost) (quiet u cost)
+
+  by-line : by t k (ltb k noLine) ≡ rtiEffect s m line cost
+  unfolding rtiEffect
+  by-line =
+      ap (λ j. by t j (ltb j noLine)) allowed
+      ∙ ap (λ (u : State). by u (allowedLine (u .flags) line) (ltb (allowedLine (u .flags) line) noLine)) pulled
+
+  pub returns-taking : k < noLine → rtiEffect s m line cost ≡ quiet (vectored (withSp t (s .sp)) m k) returnAndEntryCost
+  returns-taking low = sym by-line ∙ ap (by t k) (lt-ltb k noLine low)
+
+  pub returns-plainly : noLine ≤ k → rtiEffect s m line cost ≡ quiet t cost
+  returns-plainly none = sym by-line ∙ ap (by t k) (le-ltb k noLine none)
