@@ -28,6 +28,7 @@ use Rattle.turn.specs.Turn.{executed, instructed, turnOf}
 use Rattle.promises.specs.Steps.{afterSteps}
 use Rattle.promises.specs.Warning.{stateAt, StaysUp, FirstFrom, NoStopBefore}
 use Rattle.witness.specs.Bound.{slowest, TheBoundIsReached, RowFourteen}
+use Rattle.witness.proofs.Trace.{Seen, nothing, trace, seen, seen-in}
 
 -- every number of the image is below 256: one test over all of it
 are-bytes : AreBytes slowest
@@ -36,16 +37,6 @@ are-bytes a =
     let byte : ℕ → Bool = λ n. ltb n 256 in
     ltb→lt _ _ (subst T (List·getD-map byte slowest a 0) (holds (map byte slowest) tt a))
 
--- what is seen of a step: the number of its reply; and PC, the clock and X after it
-record Seen : Type 0 where
-  reply : ℕ
-  pc : ℕ
-  clock : ℕ
-  x : Bool
-
-abbrev nothing : Seen
-nothing = record { reply = 0; pc = 0; clock = 0; x = false }
-
 -- XIRQ up from cycle 2 on, and from cycle 101 on
 abbrev upAtTwo : Given
 upAtTwo = givenIs (2 ∷ []) (1 ∷ [])
@@ -53,45 +44,18 @@ upAtTwo = givenIs (2 ∷ []) (1 ∷ [])
 abbrev upAt101 : Given
 upAt101 = givenIs (101 ∷ []) (1 ∷ [])
 
-module _ (given : Given) where
-  -- steps one after another, each from where the one before it led, so that none is computed twice
-  trace : ℕ → State → List ℕ → List Seen
-  trace zero s m = []
-  trace (suc k) s m =
-      let next = nextState given s m in
-      record { reply = numberOf (turnAt given s m .reply); pc = next .pc; clock = next .clock; x = next .flags .x }
-      ∷ trace k next (nextMemory given s m)
-
-  -- the same step where the theorems have it
-  abbrev seen : ℕ → State → List ℕ → Seen
-  seen n s m =
-      let here = afterSteps n given s m in
-      let next = afterSteps (suc n) given s m .state in
-      record {
-        reply = numberOf (turnAt given (here .state) (here .memory) .reply);
-        pc = next .pc;
-        clock = next .clock;
-        x = next .flags .x;
-      }
-
-  seen-in : (n k : ℕ) (s : State) (m : List ℕ) → n < k → seen n s m ≡ getD (trace k s m) n nothing
-  unfolding trace afterSteps
-  seen-in n zero s m h = absurd (omega (arith, h))
-  seen-in zero (suc k) s m h = refl
-  seen-in (suc n) (suc k) s m h = seen-in n k (nextState given s m) (nextMemory given s m) (omega (arith, h))
-
 -- from reset, and in row 14
 abbrev fromReset : List Seen
 fromReset =
-    record { reply = 0; pc = 0x4002; clock = 1; x = false }
-    ∷ record { reply = 0; pc = 0x4006; clock = 14; x = false }
-    ∷ record { reply = 0; pc = 0x5000; clock = 23; x = true }
+    record { reply = 0; pc = 0x4002; sp = 0; clock = 1; x = false }
+    ∷ record { reply = 0; pc = 0x4006; sp = 0; clock = 14; x = false }
+    ∷ record { reply = 0; pc = 0x5000; sp = 0xFFF7; clock = 23; x = true }
     ∷ []
 
 abbrev inRowFourteen : List Seen
 inRowFourteen =
-    record { reply = 0; pc = 0x4006; clock = 113; x = false }
-    ∷ record { reply = 0; pc = 0x5000; clock = 122; x = true }
+    record { reply = 0; pc = 0x4006; sp = 0; clock = 113; x = false }
+    ∷ record { reply = 0; pc = 0x5000; sp = 0xFFF7; clock = 122; x = true }
     ∷ []
 
 computed :

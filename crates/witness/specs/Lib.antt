@@ -1,3 +1,4 @@
 pub mod Image
 pub mod Bench
 pub mod Bound
+pub mod Returns
