@@ -269,7 +269,7 @@ taken-by s m line k at none low is =
     let pulled = pulledFrame s m in
     let alone = rti-alone s m at in
     let turn : turnOf s m line ≡ turnIs Done (quiet (vectored (withSp pulled (s .sp)) m k) 10) =
-        rti-taken s m line at none (rw is low) ∙ ap (λ j. turnIs Done (quiet (vectored (withSp pulled (s .sp)) m j) 10)) is in
+    rti-taken s m line at none (rw is low) ∙ ap (λ j. turnIs Done (quiet (vectored (withSp pulled (s .sp)) m j) 10)) is in
     record {
       reply = ap (λ (t : Turn). t .reply) turn;
       b = ap (λ (t : Turn). t .effect .state .b) turn ∙ sym (ap (λ (t : Turn). t .effect .state .b) alone);
