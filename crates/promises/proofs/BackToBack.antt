@@ -1,15 +1,15 @@
 -- An RTI that takes a request leaves what RTI and an ordinary entry leave. On the definitions alone. Assumes nothing.
-use Prim.Native.Nat.{ℕ, zero, suc, _+_, _/_, _%_, _<_, _≤_}
+use Prim.Native.Nat.{ℕ, zero, suc, _+_, _/_, _%_, _<_}
 use native.Mathlib.Omega.{arith}
 use mathlib.Core.Path.{_≡_, refl, sym, _∙_, ap}
 use mathlib.Core.Bool.{Bool, true, false, _&&_}
 use mathlib.Core.List.{List}
-use lib.Dec.{ltb, eqb}
+use lib.Dec.{ltb}
 use lib.ListN.{length, getD}
 use borrow.Author.Tests.{ltb-true, eq-eqb, ne-eqb}
 use Rattle.word.specs.Word.{pick, plusW, minusW, bitOf, highOf, lowOf}
 use Rattle.word.proofs.Laws.{high-word, low-word, minus-plus}
-use Rattle.memory.specs.Memory.{byteAt, wordAt, AreBytes, storeAll, bytesStored, committed}
+use Rattle.memory.specs.Memory.{byteAt, wordAt, AreBytes, storeAll, committed}
 use Rattle.memory.proofs.Laws.{store-none, stores-exactly, store-by-byte}
 use Rattle.state.specs.declared.Flags.{Flags}
 use Rattle.state.specs.declared.State.{State}
@@ -19,16 +19,15 @@ use Rattle.state.proofs.Laws.{byte-again}
 use Rattle.effect.specs.Effect.{quiet}
 use Rattle.frames.specs.Frames.{frameOf, frameStore, interruptEffect, pulledFrame}
 use Rattle.machine.specs.declared.Reply.the-variants.{Done}
-use Rattle.machine.specs.Names.{lineVector, noLine}
+use Rattle.machine.specs.Names.{lineVector}
 use Rattle.requests.specs.Requests.{allowedLine, masked, entryEffect, vectored}
 use Rattle.turn.specs.declared.Turn.{Turn}
 use Rattle.turn.specs.Turn.{turnIs, turnOf}
-use Rattle.refusals.specs.Given.{Given, lineIn}
-use Rattle.steps.specs.Steps.{turnState, turnMemory, turnAt, nextState, nextMemory}
+use Rattle.refusals.specs.Given.{lineIn}
+use Rattle.steps.specs.Steps.{turnState, nextState, nextMemory}
 use Rattle.walk.specs.Words.{Words}
-use Rattle.walk.proofs.Registers.{frame-bytes, set-clock}
-use Rattle.promises.specs.Plain.{At}
-use Rattle.promises.specs.BackToBack.{lineAfterPull, RtiTakes, between, memoryBetween, byTwo, memoryByTwo, OneForTwo, BackToBack, RtiInARun, TheLinesWhereRtiBegins}
+use Rattle.walk.proofs.Registers.{frame-bytes}
+use Rattle.promises.specs.BackToBack.{lineAfterPull, RtiTakes, between, memoryBetween, byTwo, memoryByTwo, BackToBack, TheLinesWhereRtiBegins}
 use Rattle.promises.proofs.Lines.{entry-turn, rti-plain, rti-taken, rti-alone}
 use Rattle.promises.proofs.Words.{every-step-keeps-words}
 

@@ -6,7 +6,7 @@ use mathlib.Core.Bool.{Bool, true, false, _&&_, _||_, not}
 use mathlib.Core.List.{List}
 use lib.Dec.{eqb}
 use lib.ListN.{length}
-use borrow.Author.Tests.{eq-eqb, ne-eqb, eqb-true, lt-ltb, le-ltb}
+use borrow.Author.Tests.{eqb-true, lt-ltb, le-ltb}
 use Rattle.word.specs.Word.{pick, plusW, minusW, bitOf}
 use Rattle.memory.specs.Memory.{byteAt, committed}
 use Rattle.memory.proofs.Laws.{store-none}

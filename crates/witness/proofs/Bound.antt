@@ -16,13 +16,10 @@ use Rattle.decode.specs.Decode.{fetchedOf}
 use Rattle.execute16.specs.Registers.{secondRegisters, registered, registersEffect}
 use Rattle.products.specs.Products.{accumulateEffect, productEffect}
 use Rattle.frames.specs.Frames.{interruptEffect}
-use Rattle.state.specs.declared.State.{State}
 use Rattle.state.specs.State.{noState, withPc, withClock}
-use Rattle.machine.specs.Names.{numberOf}
 use Rattle.machine.specs.Reset.{resetOf}
 use Rattle.refusals.specs.Given.{Given, givenIs}
 use Rattle.refusals.specs.Refusals.{runRefusal}
-use Rattle.steps.specs.Steps.{turnAt, nextState, nextMemory}
 use Rattle.requests.specs.Requests.{allowedLine, entryEffect}
 use Rattle.turn.specs.Turn.{executed, instructed, turnOf}
 use Rattle.promises.specs.Steps.{afterSteps}
