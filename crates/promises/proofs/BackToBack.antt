@@ -20,14 +20,14 @@ use Rattle.effect.specs.Effect.{quiet}
 use Rattle.frames.specs.Frames.{frameOf, frameStore, interruptEffect, pulledFrame}
 use Rattle.machine.specs.declared.Reply.the-variants.{Done}
 use Rattle.machine.specs.Names.{lineVector}
-use Rattle.requests.specs.Requests.{allowedLine, masked, entryEffect, vectored}
+use Rattle.requests.specs.Requests.{allowedLine, lineAfterPull, masked, entryEffect, vectored}
 use Rattle.turn.specs.declared.Turn.{Turn}
 use Rattle.turn.specs.Turn.{turnIs, turnOf}
 use Rattle.refusals.specs.Given.{lineIn}
 use Rattle.steps.specs.Steps.{turnState, nextState, nextMemory}
 use Rattle.walk.specs.Words.{Words}
 use Rattle.walk.proofs.Registers.{frame-bytes}
-use Rattle.promises.specs.BackToBack.{lineAfterPull, RtiTakes, between, memoryBetween, byTwo, memoryByTwo, BackToBack, TheLinesWhereRtiBegins}
+use Rattle.promises.specs.BackToBack.{RtiTakes, between, memoryBetween, byTwo, memoryByTwo, BackToBack, TheLinesWhereRtiBegins}
 use Rattle.promises.proofs.Lines.{entry-turn, rti-plain, rti-taken, rti-alone}
 use Rattle.promises.proofs.Words.{every-step-keeps-words}
 

@@ -7,9 +7,7 @@ use mathlib.Core.List.{List}
 use lib.Dec.{ltb, eqb}
 use borrow.Author.Tests.{eqb-true, eqb-false}
 use Rattle.word.specs.Word.{pick}
-use Rattle.memory.specs.Memory.{byteAt}
 use Rattle.state.specs.declared.State.{State}
-use Rattle.state.specs.Ccr.{takeCcr}
 use Rattle.opcodes.specs.Kind.{RTI, groupOf, memberOf, SHORT-BRANCHES, LONG-BRANCHES}
 use Rattle.opcodes.specs.Rules.{stopsOf}
 use Rattle.codes.specs.Conditions.{conditionOf}
@@ -24,7 +22,7 @@ use Rattle.machine.specs.declared.Reply.{Reply}
 use Rattle.machine.specs.declared.Reply.the-variants.{Done}
 use Rattle.machine.specs.Names.{numberOf, noLine, idleCost}
 use Rattle.machine.proofs.Laws.{number-zero}
-use Rattle.requests.specs.Requests.{allowedLine, entryEffect, wakeEffect, rtiEffect}
+use Rattle.requests.specs.Requests.{allowedLine, entryEffect, wakeEffect, lineAfterPull, rtiEffect}
 use Rattle.turn.specs.Turn.{controlled, executed, turnIs, instructed, turnOf}
 use Rattle.walk.specs.Walk.{Before, IsBranch, Gives}
 use Rattle.walk.specs.Walk.IsBranch.{short, long}
@@ -37,7 +35,7 @@ use Rattle.steps.specs.End.{endsHere}
 use Rattle.steps.specs.Steps.{turnEnd, turnAt}
 use Rattle.run.specs.Step.{stepOf}
 use Rattle.promises.specs.Steps.{afterSteps}
-use Rattle.promises.specs.Costs.{branchOf, figureOf, rtiTakes, tabledInstruction, stepCost, tabledCost, tabledSum, AStepCostsWhatIsTabled, ASingleStepUsesWhatIsTabled, ARunUsesWhatIsTabled}
+use Rattle.promises.specs.Costs.{branchOf, figureOf, takesARequest, tabledInstruction, stepCost, tabledCost, tabledSum, AStepCostsWhatIsTabled, ASingleStepUsesWhatIsTabled, ARunUsesWhatIsTabled}
 use Rattle.promises.proofs.Boundaries.{one-on}
 
 -- an instruction that is no branch and not RTI costs what was decoded
@@ -85,9 +83,9 @@ other-cost s m line d no-rti = go (eqb (groupOf (d .kind)) SHORT-BRANCHES) (eqb 
 rti-cost :
     (s : State) (m : List ℕ) (line : ℕ) (d : Decoded) →
     d .kind ≡ RTI →
-    executed s m line d .cost ≡ pick (ltb (allowedLine (takeCcr (s .flags) (byteAt m (s .sp))) line) noLine) 10 (d .cost)
-unfolding executed controlled rtiEffect pulledFrame
-rti-cost s m line d is = rw is (either (ltb (allowedLine (takeCcr (s .flags) (byteAt m (s .sp))) line) noLine) _ _)
+    executed s m line d .cost ≡ pick (ltb (lineAfterPull s m line) noLine) 10 (d .cost)
+unfolding executed controlled rtiEffect
+rti-cost s m line d is = rw is (either (ltb (lineAfterPull s m line) noLine) _ _)
   where
     either : (b : Bool) (e e′ : Effect) → pick b e e′ .cost ≡ pick b (e .cost) (e′ .cost)
     either true e e′ = refl
@@ -96,14 +94,14 @@ rti-cost s m line d is = rw is (either (ltb (allowedLine (takeCcr (s .flags) (by
 executed-cost :
     (s : State) (m : List ℕ) (line : ℕ) (d : Decoded) →
     executed s m line d .cost
-    ≡ pick (eqb (d .kind) RTI && ltb (allowedLine (takeCcr (s .flags) (byteAt m (s .sp))) line) noLine) 10
+    ≡ pick (eqb (d .kind) RTI && ltb (lineAfterPull s m line) noLine) 10
     (figureOf (branchOf (d .kind)) (conditionOf (s .flags) (memberOf (d .kind))) (d .cost) (d .untaken))
 executed-cost s m line d = go (eqb (d .kind) RTI) refl
   where
     go :
         (b : Bool) → eqb (d .kind) RTI ≡ b →
         executed s m line d .cost
-        ≡ pick (b && ltb (allowedLine (takeCcr (s .flags) (byteAt m (s .sp))) line) noLine) 10
+        ≡ pick (b && ltb (lineAfterPull s m line) noLine) 10
         (figureOf (branchOf (d .kind)) (conditionOf (s .flags) (memberOf (d .kind))) (d .cost) (d .untaken))
     go true is =
         let rti : d .kind ≡ RTI = eqb-true (d .kind) RTI is in
@@ -118,15 +116,15 @@ refused h e = let z = ap numberOf e in absurd (omega (arith, h, z))
 instructed-cost :
     (s : State) (m : List ℕ) (line : ℕ) →
     instructed s m line (fetchedOf m (s .pc)) .reply ≡ Done →
-    instructed s m line (fetchedOf m (s .pc)) .effect .cost ≡ pick (rtiTakes s m line) 10 (tabledInstruction s m)
-unfolding instructed fetchedOf
+    instructed s m line (fetchedOf m (s .pc)) .effect .cost ≡ pick (takesARequest s m line) 10 (tabledInstruction s m)
+unfolding instructed fetchedOf pulledFrame
 instructed-cost s m line = go (stopsOf (cellAt m (s .pc))) (reservedAt m (cellAt m (s .pc)) (afterOpcode m (s .pc)))
   where
     go :
         (st rs : Bool) →
         instructed s m line (pick st Stop (pick rs Reserved (Instruction (instructionAt m (s .pc))))) .reply ≡ Done →
         instructed s m line (pick st Stop (pick rs Reserved (Instruction (instructionAt m (s .pc))))) .effect .cost
-        ≡ pick (rtiTakes s m line) 10 (tabledInstruction s m)
+        ≡ pick (takesARequest s m line) 10 (tabledInstruction s m)
     go true rs done = refused (omega arith) done
     go false true done = refused (omega arith) done
     go false false done = executed-cost _ m line (instructionAt m (s .pc))
@@ -144,7 +142,7 @@ a-step-costs-what-is-tabled s m line = go (ltb k noLine) (s .standing .waiting)
         (pick w (turnIs Done (quiet s idleCost)) (instructed s m line (fetchedOf m (s .pc)))) .reply ≡ Done →
         pick b (pick w (turnIs Done (wakeEffect s m k)) (turnIs Done (entryEffect s m k)))
         (pick w (turnIs Done (quiet s idleCost)) (instructed s m line (fetchedOf m (s .pc)))) .effect .cost
-        ≡ stepCost b w (pick (rtiTakes s m line) 10 (tabledInstruction s m))
+        ≡ stepCost b w (pick (takesARequest s m line) 10 (tabledInstruction s m))
     go true true done = refl
     go true false done = refl
     go false true done = refl

@@ -28,7 +28,7 @@ use Rattle.frames.specs.Frames.{frameOf, frameStore, interruptEffect, pulledFra
 use Rattle.machine.specs.declared.Reply.the-variants.{Done}
 use Rattle.machine.specs.Names.{lineVector, noLine, idleCost}
 use Rattle.requests.proofs.Laws.{lowest-first, returns-taking, returns-plainly}
-use Rattle.requests.specs.Requests.{lowestLine, allowedLine, masked, entryEffect, vectored, wakeEffect, rtiEffect}
+use Rattle.requests.specs.Requests.{lowestLine, allowedLine, lineAfterPull, masked, entryEffect, vectored, wakeEffect, rtiEffect}
 use Rattle.turn.specs.declared.Turn.{Turn}
 use Rattle.turn.specs.Turn.{controlled, executed, turnIs, instructed, turnOf}
 use Rattle.walk.specs.Words.{Words}
@@ -237,16 +237,16 @@ rti-turn s m line at none = turn-under s m line 0x0B at refl none
 -- by whether the masks that it pulls allow one
 pub rti-plain :
     (s : State) (m : List ℕ) (line : ℕ) → At s m 0x0B → noLine ≤ allowedLine (s .flags) line →
-    noLine ≤ allowedLine (pulledFrame s m .flags) line →
+    noLine ≤ lineAfterPull s m line →
     turnOf s m line ≡ turnIs Done (quiet (pulledFrame s m) 8)
 unfolding pulledFrame
 rti-plain s m line at none shut = rti-turn s m line at none ∙ ap (turnIs Done) (returns-plainly (withPc s (plusW (s .pc) 1)) m line 8 refl refl shut)
 
 pub rti-taken :
     (s : State) (m : List ℕ) (line : ℕ) → At s m 0x0B → noLine ≤ allowedLine (s .flags) line →
-    allowedLine (pulledFrame s m .flags) line < noLine →
+    lineAfterPull s m line < noLine →
     turnOf s m line
-    ≡ turnIs Done (quiet (vectored (withSp (pulledFrame s m) (s .sp)) m (allowedLine (pulledFrame s m .flags) line)) 10)
+    ≡ turnIs Done (quiet (vectored (withSp (pulledFrame s m) (s .sp)) m (lineAfterPull s m line)) 10)
 unfolding pulledFrame
 rti-taken s m line at none up = rti-turn s m line at none ∙ ap (turnIs Done) (returns-taking (withPc s (plusW (s .pc) 1)) m line 8 refl refl up)
 
@@ -263,7 +263,7 @@ masks-over k f = both (λ (g : Flags). g ≡ setX (setI f true) (g .x)) (eqb k 0
 
 taken-by :
     (s : State) (m : List ℕ) (line k : ℕ) → At s m 0x0B → noLine ≤ allowedLine (s .flags) line → k < noLine →
-    allowedLine (pulledFrame s m .flags) line ≡ k →
+    lineAfterPull s m line ≡ k →
     TakenBy (lineVector k) (masked k (pulledFrame s m .flags) .x) s m line
 taken-by s m line k at none low is =
     let pulled = pulledFrame s m in
@@ -304,7 +304,7 @@ rti-at m pc = go (eqb (byteAt m pc) 0x18)
 
 unheard :
     (s : State) (m : List ℕ) (line : ℕ) (d : Decoded) →
-    (d .kind ≡ RTI → noLine ≤ allowedLine (pulledFrame s m .flags) line) →
+    (d .kind ≡ RTI → noLine ≤ lineAfterPull s m line) →
     executed s m line d ≡ executed s m 0 d
 unfolding executed controlled rtiEffect
 unheard s m line d shut = go (eqb (d .kind) RTI) refl
@@ -315,7 +315,7 @@ unheard s m line d shut = go (eqb (d .kind) RTI) refl
 
 nothing-heard :
     (s : State) (m : List ℕ) (line : ℕ) →
-    (cellAt m (s .pc) .kind ≡ RTI → noLine ≤ allowedLine (pulledFrame s m .flags) line) →
+    (cellAt m (s .pc) .kind ≡ RTI → noLine ≤ lineAfterPull s m line) →
     instructed s m line (fetchedOf m (s .pc)) ≡ instructed s m 0 (fetchedOf m (s .pc))
 unfolding instructed fetchedOf pulledFrame
 nothing-heard s m line shut = go (stopsOf (cellAt m (s .pc))) (reservedAt m (cellAt m (s .pc)) (afterOpcode m (s .pc)))
@@ -333,7 +333,7 @@ unfolding turnOf
 every-masked-request s m line shut pulls =
     rw (le-ltb _ _ (shut-line (s .flags) line shut), le-ltb _ _ (quiet-line (s .flags))) (go (s .standing .waiting) refl)
   where
-    still-shut : s .standing .waiting ≡ false → cellAt m (s .pc) .kind ≡ RTI → noLine ≤ allowedLine (pulledFrame s m .flags) line
+    still-shut : s .standing .waiting ≡ false → cellAt m (s .pc) .kind ≡ RTI → noLine ≤ lineAfterPull s m line
     still-shut awake is =
         let at : At s m 0x0B = (awake, rti-at m (s .pc) is) in
         shut-line (pulledFrame s m .flags) line

@@ -8,19 +8,14 @@ use lib.ListN.{length}
 use Rattle.memory.specs.Memory.{byteAt, AreBytes}
 use Rattle.state.specs.declared.State.{State}
 use Rattle.state.specs.State.{withClock}
-use Rattle.frames.specs.Frames.{pulledFrame}
 use Rattle.machine.specs.declared.Reply.the-variants.{Done}
 use Rattle.machine.specs.Names.{noLine}
-use Rattle.requests.specs.Requests.{allowedLine, entryEffect}
+use Rattle.requests.specs.Requests.{allowedLine, lineAfterPull, entryEffect}
 use Rattle.turn.specs.Turn.{turnIs, turnOf}
 use Rattle.refusals.specs.Given.{Given, lineIn}
 use Rattle.steps.specs.Steps.{turnState, turnMemory, turnAt, nextState, nextMemory}
 use Rattle.walk.specs.Words.{Words}
 use Rattle.promises.specs.Plain.{At}
-
--- the line that the masks allow which RTI pulls
-abbrev pub lineAfterPull : State → List ℕ → ℕ → ℕ
-lineAfterPull s m line = allowedLine (pulledFrame s m .flags) line
 
 -- RTI, 0B, is what is done at a boundary, and under this line byte it takes a request: none is entered before it
 pub record RtiTakes (s : State) (m : List ℕ) (line : ℕ) : Type 0 where
@@ -44,7 +39,7 @@ memoryByTwo s m line = turnMemory (between s m) (memoryBetween s m) line
 
 -- What the one step leaves is what the two leave. Every register, SP, PC and every code; only the clock is another, 10 later and not 17.
 -- The one step stores nothing. The two push the frame again over the one that was pulled: byte for byte the same, but for the byte of the
--- codes where the rule for X cleared the X that was stacked.
+-- codes where the rule for X held back the X that was stacked.
 pub record OneForTwo (s : State) (m : List ℕ) (line : ℕ) : Type 0 where
   pub once : turnOf s m line .effect .cost ≡ 10
   pub first : turnOf s m 0 .effect .cost ≡ 8

@@ -8,14 +8,13 @@ use lib.Dec.{ltb, eqb}
 use Rattle.word.specs.Word.{pick}
 use Rattle.memory.specs.Memory.{byteAt}
 use Rattle.state.specs.declared.State.{State}
-use Rattle.state.specs.Ccr.{takeCcr}
 use Rattle.opcodes.specs.Kind.{RTI, groupOf, memberOf, SHORT-BRANCHES, LONG-BRANCHES}
 use Rattle.opcodes.specs.Postbyte.{costOf, untakenOf}
 use Rattle.codes.specs.Conditions.{conditionOf}
 use Rattle.decode.specs.Decode.{cellAt, afterOpcode}
 use Rattle.machine.specs.declared.Reply.the-variants.{Done}
 use Rattle.machine.specs.Names.{noLine}
-use Rattle.requests.specs.Requests.{allowedLine}
+use Rattle.requests.specs.Requests.{allowedLine, lineAfterPull}
 use Rattle.turn.specs.Turn.{turnOf}
 use Rattle.refusals.specs.Given.{Given, lineIn}
 use Rattle.run.specs.Step.{stepOf}
@@ -38,10 +37,9 @@ tabledInstruction s m =
     (costOf cell (byteAt m (afterOpcode m (s .pc))))
     (untakenOf cell)
 
--- RTI stands at PC, and the codes that it pulls, X under its rule, allow a request of the line byte
-abbrev pub rtiTakes : State → List ℕ → ℕ → Bool
-rtiTakes s m line =
-    eqb (cellAt m (s .pc) .kind) RTI && ltb (allowedLine (takeCcr (s .flags) (byteAt m (s .sp))) line) noLine
+-- RTI stands at PC, and the masks that it pulls allow a request of the line byte
+abbrev pub takesARequest : State → List ℕ → ℕ → Bool
+takesARequest s m line = eqb (cellAt m (s .pc) .kind) RTI && ltb (lineAfterPull s m line) noLine
 
 -- The cost of a step, by whether a line is to be entered and whether the machine waits: the end of a wait, an entry, an idle cycle, and
 -- an instruction, which has the figure given.
@@ -54,7 +52,7 @@ stepCost false false instruction = instruction
 -- The tabled cost of the step at a boundary. The figure of an RTI that takes a request is that of the second access detail of its row.
 abbrev pub tabledCost : State → List ℕ → ℕ → ℕ
 tabledCost s m line =
-    stepCost (ltb (allowedLine (s .flags) line) noLine) (s .standing .waiting) (pick (rtiTakes s m line) 10 (tabledInstruction s m))
+    stepCost (ltb (allowedLine (s .flags) line) noLine) (s .standing .waiting) (pick (takesARequest s m line) 10 (tabledInstruction s m))
 
 -- every step that is done costs what is tabled for it
 abbrev pub AStepCostsWhatIsTabled : Type 0

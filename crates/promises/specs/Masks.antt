@@ -1,4 +1,4 @@
--- What every step keeps of the mask X and of the waiting flag, an RTI that takes a request among them. Each law is proved under the same name in proofs/Masks.antt, and
+-- What every step keeps of the mask X and of the waiting flag. Each law is proved under the same name in proofs/Masks.antt, and
 -- `XStaysClearAlongEveryRun` in proofs/Boundaries.antt.
 use Prim.Native.Nat.{ℕ, _<_, _≤_}
 use mathlib.Core.Path.{_≡_}
@@ -6,9 +6,9 @@ use mathlib.Core.Bool.{true, false}
 use mathlib.Core.List.{List}
 use Rattle.memory.specs.Memory.{noStore, storeNine}
 use Rattle.state.specs.declared.State.{State}
-use Rattle.frames.specs.Frames.{frameOf, pulledFrame}
+use Rattle.frames.specs.Frames.{frameOf}
 use Rattle.machine.specs.Names.{noLine}
-use Rattle.requests.specs.Requests.{allowedLine}
+use Rattle.requests.specs.Requests.{allowedLine, lineAfterPull}
 use Rattle.turn.specs.Turn.{turnOf}
 use Rattle.refusals.specs.Given.{Given, lineIn}
 use Rattle.promises.specs.Steps.{afterSteps}
@@ -26,7 +26,7 @@ abbrev pub RtiTakesXirqWithXSet : Type 0
 RtiTakesXirqWithXSet =
     (s : State) (m : List ℕ) (line : ℕ) →
     noLine ≤ allowedLine (s .flags) line →
-    allowedLine (pulledFrame s m .flags) line ≡ 0 →
+    lineAfterPull s m line ≡ 0 →
     s .flags .x ≡ true
 
 -- XIRQ is entered, or ends a wait, at boundary k of a run

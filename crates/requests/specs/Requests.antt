@@ -54,12 +54,15 @@ vectored s m k = withPc (withFlags s (masked k (s .flags))) (wordAt m (lineVecto
 unfoldable pub wakeEffect : State → List ℕ → ℕ → Effect
 wakeEffect s m k = quiet (withWaiting (vectored s m k) false) wakeCost
 
--- RTI (p. 6-177) under the line byte in force where it begins (002; 7.4.5, p. 7-5, tells of both cases). The frame is pulled, and that byte
--- is held against the masks that were pulled, X among them under its rule. Where they allow no request, this is all (the first access
--- detail, uUUUUPPP). Where they allow one, it is taken in the same step (the second, uUUUUVfPPP): SP points at the frame again, which is
--- left as it is.
+-- the line that the masks allow which RTI pulls, X among them under its rule
+abbrev pub lineAfterPull : State → List ℕ → ℕ → ℕ
+lineAfterPull s m line = allowedLine (pulledFrame s m .flags) line
+
+-- RTI (p. 6-177) under the line byte in force where it begins (002; 7.4.5, p. 7-5, tells of both cases). The frame is pulled. Where the
+-- masks that were pulled allow no request, this is all (the first access detail, uUUUUPPP). Where they allow one, it is taken in the same
+-- step (the second, uUUUUVfPPP): SP points at the frame again, which is left as it is.
 unfoldable pub rtiEffect : State → List ℕ → ℕ → ℕ → Effect
 rtiEffect s m line cost =
     let t = pulledFrame s m in
-    let k = allowedLine (t .flags) line in
+    let k = lineAfterPull s m line in
     pick (ltb k noLine) (quiet (vectored (withSp t (s .sp)) m k) returnAndEntryCost) (quiet t cost)

@@ -1,6 +1,5 @@
--- The walk through the stack, branches, what changes the flow, moves, addresses and bits, a lemma for each definition (crates stack,
--- flow and moves). On the definitions
--- alone. Assumes nothing.
+-- The walk through the stack, branches, what changes the flow, RTI, moves, addresses and bits, a lemma for each definition (crates stack,
+-- flow, requests and moves). On the definitions alone. Assumes nothing.
 use Prim.Native.Nat.{ℕ, _/_, _%_, _<_}
 use native.Mathlib.Omega.{arith}
 use mathlib.Core.Path.{_≡_, refl}

@@ -22,7 +22,8 @@ use Rattle.requests.specs.Requests.{allowedLine, vectored}
 use Rattle.turn.specs.Turn.{executed}
 use Rattle.walk.specs.Words.{Words}
 
--- what there is before an instruction is done: the state, whose PC is past it, the memory, the line byte, and the instruction as it was decoded
+-- what there is before an instruction is done: the state, whose PC is past it, the memory, the line byte, and the instruction as it was
+-- decoded
 pub record Before : Type 0 where
   pub state : State
   pub memory : List ℕ
@@ -62,8 +63,8 @@ pub data IsBranch (d : Decoded) : Type 0 where
   long : groupOf (d .kind) ≡ LONG-BRANCHES → IsBranch d
 
 -- The effects that an instruction can give: a state that it came to and a store, at the cost that was decoded; of a branch that is not
--- taken a state and no store, at a cost of its own; of WAI the frame of a state, and a machine that waits; and of RTI the line that the
--- codes allow to which it came, taken from there with no store, at a cost of its own.
+-- taken a state and no store, at a cost of its own; of WAI the frame of a state, and a machine that waits; and of an RTI that takes a
+-- request the line that the codes to which it came allow, and no store, at a cost of its own.
 pub data Gives (b : Before) : Effect → Type 0 where
   stores : {s : State} {w : Store} → Comes b s → Stores b w → Gives b (writes s (b .decoded .cost) w)
   untaken : {s : State} → Comes b s → IsBranch (b .decoded) → Gives b (quiet s (b .decoded .untaken))
