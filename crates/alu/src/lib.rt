@@ -1,5 +1,7 @@
 // Additions, subtractions, counting and comparing, at 8 and at 16 bits: each is a function from the codes before and the operands
 // to the result and the codes after. No memory, no opcode and no address here.
+#![tactic(auto)]
+
 ghost use Rattle.std.specs.Prelude.{◌≡◌, ◌+◌, ◌-◌, ◌%◌, ◌≤◌};
 ghost use Rattle.state.specs.Ccr.{weight_of};
 ghost use Rattle.alu.specs.Alu.{add_byte, sub_byte, neg_byte, inc_byte, dec_byte, max_byte, min_byte, add_word, sub_word, inx_word, dex_word, max_word, min_word};

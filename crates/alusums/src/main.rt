@@ -1,5 +1,7 @@
 // Runs every 8-bit operation over all its operands and both carries, and prints a checksum for each: a second emulator
 // that computes the same sums agrees with the proved functions at every operand.
+#![tactic(auto)]
+
 use results::Byte;
 use state::Flags;
 

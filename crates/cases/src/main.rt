@@ -1,4 +1,5 @@
 // Reads cases from standard input, a line each, and writes an answer for each: docs/CASES.md has the format.
+#![tactic(auto)]
 
 ghost use Rattle.std.specs.Prelude.{◌≤◌, length};
 

@@ -1,4 +1,6 @@
 // Prints the opcode map, one line a cell: page, opcode, mnemonic, length, cost.
+#![tactic(auto)]
+
 ghost use Rattle.std.specs.Prelude.{◌≡◌, ◌<◌};
 ghost use Rattle.opcodes.specs.Grid.{grid as grid_of};
 ghost use Rattle.opcodes.specs.Map.{opcode_map};

@@ -1,4 +1,6 @@
 // The condition codes as a whole byte, the branch conditions, and the loop primitives.
+#![tactic(auto)]
+
 ghost use Rattle.std.specs.Prelude.{◌≡◌, ◌%◌, not, ◌==◌};
 ghost use Rattle.word.specs.Word.{pick};
 ghost use Rattle.codes.specs.Conditions.{andcc_of, orcc_of, sign_wrong, condition_of};
@@ -52,13 +54,13 @@ pub fn condition(f: Flags, code: u16) -> bool
     }
 }
 
-#[derive(Drop)]
+#[derive(Clone, Copy)]
 pub struct Count8 {
     pub counter: u8,
     pub taken: bool,
 }
 
-#[derive(Drop)]
+#[derive(Clone, Copy)]
 pub struct Count16 {
     pub counter: u16,
     pub taken: bool,

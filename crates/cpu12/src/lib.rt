@@ -1,5 +1,7 @@
 // The machine's doors for programs in other languages, over numbers and lent bytes. Each tests every length that it is lent, and
 // changes nothing where it refuses. docs/GUIDE-ABI.md has the state record, the packed schedule and the numbers.
+#![tactic(auto)]
+
 ghost use Rattle.std.specs.Prelude.{◌≡◌, length};
 ghost use Rattle.machine.specs.Names.{number_of};
 ghost use Rattle.packing.specs.Bytes.{record_size, bytes_of};

@@ -1,4 +1,6 @@
 // The decimal adjustment after an addition, and the two table lookups.
+#![tactic(auto)]
+
 ghost use Rattle.std.specs.Prelude.{◌≡◌, ◌≤◌, max};
 ghost use Rattle.word.specs.Word.{pick};
 ghost use Rattle.state.specs.Ccr.{weight_of};

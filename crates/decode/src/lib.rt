@@ -1,5 +1,7 @@
 // What stands at the program counter. Nothing is changed here: the memory is only read, each byte of the opcode once and the postbyte
 // once.
+#![tactic(auto)]
+
 ghost use Rattle.std.specs.Prelude.{◌≡◌, length};
 ghost use Rattle.opcodes.specs.Grid.{grid as grid_of};
 ghost use Rattle.opcodes.specs.Map.{opcode_map};
@@ -10,7 +12,7 @@ use opcodes::{Cell, mode};
 // An instruction: which it is, how it is addressed, the first byte after its opcode, the address after all of it, its
 // cost, and its cost where it is a branch that is not taken; the byte that stands at `at`, and the address form that this names where
 // it is an indexed postbyte.
-#[derive(Drop)]
+#[derive(Clone, Copy)]
 pub struct Decoded {
     pub kind: u16,
     pub mode: u8,
@@ -22,7 +24,7 @@ pub struct Decoded {
     pub form: u8,
 }
 
-#[derive(Drop)]
+#[derive(Clone, Copy)]
 pub enum Fetched {
     Stop,
     Reserved,
@@ -30,7 +32,7 @@ pub enum Fetched {
 }
 
 // A cell of the map, and the address after the opcode that named it.
-#[derive(Drop)]
+#[derive(Clone, Copy)]
 pub struct Opcode {
     pub cell: Cell,
     pub at: u16,

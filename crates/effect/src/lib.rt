@@ -1,5 +1,7 @@
 // What a step does: the state after it, its cost, and the one run of bytes that it stores. It is worked out whole before
 // any of it is done, so that all reads come before all writes and no part of a step is ever spent.
+#![tactic(auto)]
+
 ghost use Rattle.std.specs.Prelude.{◌≡◌, ◌+◌, ◌<◌, length};
 ghost use Rattle.memory.specs.Memory.{committed};
 ghost use Rattle.effect.specs.Effect.{writes as writes_of, quiet as quiet_of, acted};
@@ -7,7 +9,7 @@ ghost use Rattle.effect.specs.Effect.{writes as writes_of, quiet as quiet_of, ac
 use memory::Store;
 use state::State;
 
-#[derive(Drop)]
+#[derive(Clone, Copy)]
 pub struct Effect {
     pub state: State,
     pub cost: u8,

@@ -1,5 +1,7 @@
 // The instructions on words, the stores, the larger or smaller of two, what works on registers and condition codes alone, and table
 // lookup. Where an operand lies was found before; what two sizes may have is read here.
+#![tactic(auto)]
+
 ghost use Rattle.std.specs.Prelude.{◌≡◌, length};
 ghost use Rattle.state.specs.State.{with_flags};
 ghost use Rattle.effect.specs.Effect.{quiet};

@@ -1,5 +1,7 @@
 // The instructions on bytes: A or B with an operand, and a byte changed in memory or in A or B. Everything here is numbers: where an
 // operand lies, and what stands there, was found before.
+#![tactic(auto)]
+
 ghost use Rattle.std.specs.Prelude.{◌≡◌};
 ghost use Rattle.word.specs.Word.{pick};
 ghost use Rattle.execute8.specs.Bytes.{keeping as keeping_of, loaded_byte, accumulated as accumulated_of, changed as changed_of, a_result, b_result, a_with, b_with, memory_changed, a_changed, b_changed};

@@ -1,5 +1,7 @@
 // Where the program goes next: branches and loops, and subroutines. SWI, TRAP and RTI belong here too, but their vectors are the
 // machine's.
+#![tactic(auto)]
+
 ghost use Rattle.std.specs.Prelude.{◌≡◌, length};
 ghost use Rattle.decode.specs.Decode.{Faithful};
 ghost use Rattle.flow.specs.Branches.{branched as branched_of, short_branched, long_branched, byte_looped, word_looped, looped as looped_of, loop_done};

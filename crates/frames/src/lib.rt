@@ -1,4 +1,6 @@
 // The frame of nine bytes: what an entry and WAI push, and RTI pulls. SP points at the last byte that was pushed.
+#![tactic(auto)]
+
 ghost use Rattle.std.specs.Prelude.{◌≡◌, length};
 ghost use Rattle.frames.specs.Frames.{frame_store, interrupt_effect, wait_effect, pulled_frame};
 

@@ -1,4 +1,6 @@
 // The tests of what is lent to a door of the library: each gives the number of the first refusal, or 0 where there is none.
+#![tactic(auto)]
+
 ghost use Rattle.std.specs.Prelude.{◌≡◌, length, drop};
 ghost use Rattle.packing.specs.Bytes.{record_size, reserved_place};
 ghost use Rattle.lent.specs.Lent.{all_zero, length_refusal, record_refusal, lent_refusal};

@@ -1,5 +1,7 @@
 // Logic on bytes, bit by bit: each operation is a function from the codes before and the operands to the result and the codes after.
 // Tests for zero and clearing stand here too, since no carry enters into them.
+#![tactic(auto)]
+
 ghost use Rattle.std.specs.Prelude.{◌≡◌};
 ghost use Rattle.logic.specs.Logic.{and_byte, or_byte, eor_byte, bclr_byte, all_clear, all_set, tst_byte, clr_byte, com_byte};
 

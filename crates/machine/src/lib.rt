@@ -1,4 +1,6 @@
 // The machine: its replies, its numbers, and its reset.
+#![tactic(auto)]
+
 ghost use Rattle.std.specs.Prelude.{◌≡◌};
 ghost use Rattle.machine.specs.Names.{number_of};
 ghost use Rattle.machine.specs.Reset.{reset_state, reset_reply, reset_of};
@@ -6,7 +8,7 @@ ghost use Rattle.machine.specs.Reset.{reset_state, reset_reply, reset_of};
 use state::{Flags, State};
 
 // The replies of docs/MACHINE.md, "Numbered replies"; `number_of` in specs/Names.antt gives the number of each.
-#[derive(Drop)]
+#[derive(Clone, Copy)]
 pub enum Reply {
     Done,
     WrongMemory,
@@ -33,12 +35,12 @@ impl Reply {
     }
 }
 
-#[derive(Drop)]
+#[derive(Clone, Copy)]
 pub struct Machine {
     pub state: State,
 }
 
-#[derive(Drop)]
+#[derive(Clone, Copy)]
 pub struct Started {
     pub reply: Reply,
     pub machine: Machine,

@@ -1,4 +1,6 @@
 // The memory: 65,536 lent bytes. What reads it takes a `&[u8]`; one function, `commit`, writes it.
+#![tactic(auto)]
+
 ghost use Rattle.std.specs.Prelude.{◌≡◌, ◌<◌, ◌≤◌, length};
 ghost use Rattle.word.specs.Word.{plus_w};
 ghost use Rattle.memory.specs.Memory.{byte_at, word_at, nth_byte, lowest_bytes, store_all, committed, store_is, no_store, store_byte, store_word, store_words, store_nine};
@@ -6,7 +8,7 @@ ghost use Rattle.memory.specs.Memory.{byte_at, word_at, nth_byte, lowest_bytes, 
 // What one step writes, from the address `at` upward: the `count` lowest bytes of `number`, the highest of them first. Of more than
 // eight the first is `first`, and the other eight are those of `number`. A store is numbers and no array of bytes because the compiler
 // takes an array apart: each of its bytes would be a value of its own in every step (docs/SPEED.md).
-#[derive(Drop)]
+#[derive(Clone, Copy)]
 pub struct Store {
     pub at: u16,
     pub count: u8,

@@ -1,5 +1,7 @@
 // Reads an old schedule from standard input and prints the new one: docs/MIGRATE.md has the form of both. The lines 6 and 7 are withdrawn:
 // their bits are cleared, and records that then repeat the line byte before them are removed.
+#![tactic(auto)]
+
 mod page;
 mod reading;
 

@@ -1,4 +1,6 @@
 // Moves, what takes the operand's address alone, and bits of memory.
+#![tactic(auto)]
+
 ghost use Rattle.std.specs.Prelude.{◌≡◌, true, length};
 ghost use Rattle.word.specs.Word.{pick};
 ghost use Rattle.opcodes.specs.Rules.{moves_mode};

@@ -1,4 +1,6 @@
 // The opcode map: what each of the 512 cells is, how long it is and what it costs; and the names of kinds, modes and forms.
+#![tactic(auto)]
+
 ghost use Rattle.std.specs.Prelude.{◌≡◌, ◌+◌, ◌<◌};
 ghost use Rattle.opcodes.specs.Grid.{grid_at, grid as grid_of};
 ghost use Rattle.opcodes.specs.Kind.{group_of, member_of};
@@ -14,7 +16,7 @@ pub mod mode;
 
 // A cell of the map. `kind` says which instruction; `mode` how it is addressed; `family` which row
 // of the grid prices it; `length` in bytes and `cost` in cycles are those of a plain IDX postbyte where it has one.
-#[derive(Drop)]
+#[derive(Clone, Copy)]
 pub struct Cell {
     pub kind: u16,
     pub mode: u8,

@@ -1,4 +1,6 @@
 // Where an operand lies: its effective address, and the registers once the base register has stepped.
+#![tactic(auto)]
+
 ghost use Rattle.std.specs.Prelude.{◌≡◌, length};
 ghost use Rattle.word.specs.Word.{plus_w};
 ghost use Rattle.memory.specs.Memory.{byte_at, word_at};
@@ -11,7 +13,7 @@ use opcodes::{Cell, form, mode};
 use state::State;
 
 // An address, and the state after the base register's update, from which the operation goes on.
-#[derive(Drop)]
+#[derive(Clone, Copy)]
 pub struct Place {
     pub address: u16,
     pub state: State,
@@ -186,7 +188,7 @@ fn indexed_place(s: State, m: &[u8], at: u16, pc: u16, p: u8, form: u8) -> Place
 
 // What is found of an instruction before its operand is worked on: where that lies, and the instruction's cost; and whether its postbyte
 // is reserved, and then it is not done.
-#[derive(Drop)]
+#[derive(Clone, Copy)]
 pub struct Found {
     pub place: Place,
     pub cost: u8,

@@ -1,5 +1,7 @@
 // The machine's state and a schedule as bytes: docs/GUIDE-ABI.md has the state record and the packed schedule. What is refused is
 // told by who is lent the bytes (crates/cpu12).
+#![tactic(auto)]
+
 ghost use Rattle.std.specs.Prelude.{◌≡◌, ◌≤◌, ◌+◌, length};
 ghost use Rattle.state.specs.Ccr.{weight_of};
 ghost use Rattle.table.specs.Records.{no_records, gathered};

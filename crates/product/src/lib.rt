@@ -1,4 +1,6 @@
 // The multiplications: the results and the codes after, from the codes before and the registers.
+#![tactic(auto)]
+
 ghost use Rattle.std.specs.Prelude.{◌≡◌};
 ghost use Rattle.word.specs.Word.{bit_of};
 ghost use Rattle.product.specs.Product.{mul_word, product_codes, emul_long, signed_product, emuls_long, emacs_long};
@@ -7,7 +9,7 @@ use results::Word;
 use state::Flags;
 
 // 32 bits: Y : D, or four bytes of memory.
-#[derive(Drop)]
+#[derive(Clone, Copy)]
 pub struct Long {
     pub value: u32,
     pub flags: Flags,

@@ -1,4 +1,6 @@
 // What multiplies and divides: MUL to EMACS, whose operands and results are registers, or for EMACS memory.
+#![tactic(auto)]
+
 ghost use Rattle.std.specs.Prelude.{◌≡◌, length};
 ghost use Rattle.word.specs.Word.{plus_w, long_of};
 ghost use Rattle.memory.specs.Memory.{word_at};

@@ -1,4 +1,6 @@
 // The divisions of the 16-bit registers, unsigned and signed.
+#![tactic(auto)]
+
 ghost use Rattle.std.specs.Prelude.{◌≡◌};
 ghost use Rattle.quotient.specs.Divide.{unsigned, idiv_of, fdiv_of, by_zero, too_large, divided, ediv_of};
 ghost use Rattle.quotient.specs.Divide.{magnitude_of, signed_of, signed_division, idivs_of, edivs_of};
@@ -6,7 +8,7 @@ ghost use Rattle.quotient.specs.Divide.{magnitude_of, signed_of, signed_division
 use state::Flags;
 
 // The quotient is for X or Y, the remainder for D.
-#[derive(Drop)]
+#[derive(Clone, Copy)]
 pub struct Division {
     pub quotient: u16,
     pub remainder: u16,

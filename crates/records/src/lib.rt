@@ -1,4 +1,6 @@
 // The run over a lent slice of records: they are gathered into two arrays of numbers, over which the machine runs.
+#![tactic(auto)]
+
 ghost use Rattle.std.specs.Prelude.{◌≡◌};
 ghost use Rattle.refusals.specs.Given.{given_is};
 ghost use Rattle.steps.specs.End.{Ends};

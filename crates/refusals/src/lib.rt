@@ -1,4 +1,6 @@
 // What a step and what a run refuse: one function each, over one order, so that a later reply that refuses is added here and nowhere else.
+#![tactic(auto)]
+
 ghost use Rattle.std.specs.Prelude.{◌≡◌};
 ghost use Rattle.word.specs.Word.{pick};
 ghost use Rattle.machine.specs.Names.{number_of};

@@ -1,4 +1,6 @@
 // The lines of request: which is entered at a boundary, what its entry or the end of a wait does, and RTI, which may take one itself.
+#![tactic(auto)]
+
 ghost use Rattle.std.specs.Prelude.{◌≡◌, length};
 ghost use Rattle.machine.specs.Names.{line_vector};
 ghost use Rattle.requests.specs.Requests.{lowest_line, allowed_line, masked as masked_of, entry_effect, vectored as vectored_of, wake_effect, rti_effect};

@@ -1,18 +1,20 @@
 // A result of 8 or of 16 bits with the codes that it gives, and the manual's formulas for them: what every operation ends in.
 // No memory, no opcode and no address here.
+#![tactic(auto)]
+
 ghost use Rattle.std.specs.Prelude.{◌≡◌, ◌&&◌, ◌||◌, not};
 ghost use Rattle.word.specs.Word.{bit_of};
 ghost use Rattle.results.specs.Results.{set_nzv, set_nzvc, result_codes};
 
 use state::Flags;
 
-#[derive(Drop)]
+#[derive(Clone, Copy)]
 pub struct Byte {
     pub value: u8,
     pub flags: Flags,
 }
 
-#[derive(Drop)]
+#[derive(Clone, Copy)]
 pub struct Word {
     pub value: u16,
     pub flags: Flags,

@@ -1,5 +1,7 @@
 // Where a move takes its operand from and to. A postbyte of a move has the form IDX, or it is reserved and nothing was fetched; so the place
 // that it names is a plain one.
+#![tactic(auto)]
+
 ghost use Rattle.std.specs.Prelude.{◌≡◌, true, ◌<◌, length};
 ghost use Rattle.opcodes.specs.Mode.{ID, ID_ID};
 ghost use Rattle.opcodes.specs.Rules.{moves_mode};
@@ -14,7 +16,7 @@ use operand::{Place, plain_place};
 use state::State;
 
 // Where a move takes its operand from and to, and the state after the updates of both base registers.
-#[derive(Drop)]
+#[derive(Clone, Copy)]
 pub struct Route {
     pub source: u16,
     pub target: u16,

@@ -1,5 +1,7 @@
 // One step under a line byte, and a run with a schedule and a budget: what is lent is tested first (`refusals`), and refused with
 // its number in docs/MACHINE.md; then both are the one loop (`steps`).
+#![tactic(auto)]
+
 ghost use Rattle.std.specs.Prelude.{◌≡◌};
 ghost use Rattle.refusals.specs.Given.{given_is};
 ghost use Rattle.steps.specs.End.{Ends};

@@ -1,10 +1,12 @@
 // The schedule: whether it is accepted, and the line byte in force, found by moving through the records once.
+#![tactic(auto)]
+
 ghost use Rattle.std.specs.Prelude.{◌≡◌, ◌≤◌};
 ghost use Rattle.schedule.specs.Schedule.{rising as rising_of, accepted as accepted_of, withdrawn as withdrawn_of, any_withdrawn, passed as passed_of, line_before, coming_at, watch_is, watch_at, Watched};
 
 // Where a run stands in its schedule: how many records are at or before its clock, the line byte in force, and the clock value at which
 // the next record comes into force. Until then a step finds its line byte here by one comparison.
-#[derive(Drop)]
+#[derive(Clone, Copy)]
 pub struct Watch {
     pub place: usize,
     pub line: u8,

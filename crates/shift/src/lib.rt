@@ -1,4 +1,6 @@
 // The shifts and rotates, at 8 and at 16 bits: the result and the codes after, from the codes before and the operand.
+#![tactic(auto)]
+
 ghost use Rattle.std.specs.Prelude.{◌≡◌};
 ghost use Rattle.word.specs.Word.{bit_of};
 ghost use Rattle.results.specs.Results.{exclusive_or};

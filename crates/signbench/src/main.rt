@@ -1,4 +1,6 @@
 // The sign bench: reads an image from standard input, resets the machine, runs it without requests, and prints one line.
+#![tactic(auto)]
+
 ghost use Rattle.std.specs.Prelude.{◌≡◌};
 ghost use Rattle.text.specs.Text.{written};
 ghost use Rattle.signbench.specs.Bench.{benched, line_of, bench_line};

@@ -1,4 +1,6 @@
 // The stack: pushes, pulls and subroutines. SP points at the last byte that was pushed.
+#![tactic(auto)]
+
 ghost use Rattle.std.specs.Prelude.{◌≡◌, length};
 ghost use Rattle.stack.specs.Stack.{byte_pushed, word_pushed, pulled as pulled_of, stacked, subroutine_effect, return_effect};
 

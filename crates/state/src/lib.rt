@@ -1,12 +1,14 @@
 // The machine's registers and condition codes. A value is built here and nowhere else: from `cleared`, through the
 // `with_` functions, so that a field that is added later is added in this crate alone.
+#![tactic(auto)]
+
 ghost use Rattle.std.specs.Prelude.{◌≡◌, ◌≤◌};
 ghost use Rattle.state.specs.Ccr.{no_flags, set_s, set_x, set_h, set_i, set_n, set_z, set_v, set_c, weight_of, ccr_of, flags_of, take_ccr};
 ghost use Rattle.state.specs.State.{no_standing, set_waiting, no_state, with_a, with_b, with_d, with_x, with_y, with_sp, with_pc, with_flags, with_standing, with_waiting, with_clock, d_of};
 
 // The condition code register, bit 0 first: most instructions set C, V, Z and N alone, which are then the low half of eight bytes
 // (docs/SPEED.md).
-#[derive(Drop)]
+#[derive(Clone, Copy)]
 pub struct Flags {
     pub c: bool,
     pub v: bool,
@@ -20,14 +22,14 @@ pub struct Flags {
 
 // What a machine carries from step to step beside its registers and its clock. What a later edition has to remember is a field here:
 // then only this record's own functions change.
-#[derive(Drop)]
+#[derive(Clone, Copy)]
 pub struct Standing {
     pub waiting: bool,
 }
 
 // The order decides which fields the compiler joins into one number, to be taken apart again at each use; this one was found by counting
 // the host's instructions (docs/SPEED.md, "The order of the fields").
-#[derive(Drop)]
+#[derive(Clone, Copy)]
 pub struct State {
     pub clock: u32,
     pub a: u8,

@@ -1,4 +1,6 @@
 // Steps one after another, from boundary to boundary: the one loop of the machine, with its answer.
+#![tactic(auto)]
+
 ghost use Rattle.std.specs.Prelude.{◌≡◌, true, ◌+◌, ◌≤◌, min, length};
 ghost use Rattle.opcodes.specs.Grid.{grid as grid_of};
 ghost use Rattle.opcodes.specs.Map.{opcode_map};
@@ -14,7 +16,7 @@ use schedule::Watch;
 use state::State;
 
 // What a step or a run answers: the machine after it, and the cycles that it used.
-#[derive(Drop)]
+#[derive(Clone, Copy)]
 pub struct Answer {
     pub reply: Reply,
     pub machine: Machine,

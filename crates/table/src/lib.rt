@@ -1,4 +1,6 @@
 // The records of a schedule, and the table that the first of them are put into.
+#![tactic(auto)]
+
 ghost use Rattle.std.specs.Prelude.{◌≡◌, min};
 ghost use Rattle.table.specs.Records.{record_is, room, no_records, with_record, gathered};
 

@@ -1,5 +1,7 @@
 // A line of text. Bytes are put into it one after another, and then it is printed. It has 80 places; what is put when all of
 // them are taken is left out.
+#![tactic(auto)]
+
 ghost use Rattle.std.specs.Prelude.{◌≡◌, [], ◌∷◌, ◌≤◌, ◌<◌, take};
 ghost use Rattle.text.specs.Text.{blank, Followed, digit_of, hex_byte, hex_word, numeral};
 

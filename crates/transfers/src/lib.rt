@@ -1,4 +1,6 @@
 // TFR, SEX and EXG: a register sent to another, and two exchanged.
+#![tactic(auto)]
+
 ghost use Rattle.std.specs.Prelude.{◌≡◌, ◌%◌};
 ghost use Rattle.transfers.specs.Registers.{byte_from, wide_from, word_from, put_byte, put_word, moved, sign_fill, back_fill, tfr_of, exg_of, transferred};
 

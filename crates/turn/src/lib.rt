@@ -1,4 +1,6 @@
 // What the machine does next at a boundary, worked out whole over a memory that is only read.
+#![tactic(auto)]
+
 ghost use Rattle.std.specs.Prelude.{ℕ, ◌≡◌, false, length};
 ghost use Rattle.word.specs.Word.{plus_w};
 ghost use Rattle.state.specs.State.{with_pc};
@@ -19,7 +21,7 @@ use operand::Place;
 use state::State;
 
 // A turn worked out: what is done, and the reply; nothing is done where the reply is Stopped or ReservedPostbyte.
-#[derive(Drop)]
+#[derive(Clone, Copy)]
 pub struct Turn {
     pub reply: Reply,
     pub effect: Effect,

@@ -1,5 +1,7 @@
 // Bytes and words: the two halves of a word and of 32 bits, sums of addresses modulo 65,536, sign extension.
 // Every other crate builds its addresses from these.
+#![tactic(auto)]
+
 ghost use Rattle.std.specs.Prelude.{◌≡◌};
 ghost use Rattle.word.specs.Word.{high_of, low_of, word_of, plus_w, minus_w, extend8, extend9, extend16, high_word, low_word, long_of};
 

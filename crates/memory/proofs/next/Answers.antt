@@ -1,0 +1,5 @@
+use borrow.Author.Rules.{rules}
+use Rattle.memory.proofs.next.Goals as goal
+
+pub returns : goal.returns
+returns c = c.plus.ensures

@@ -1,0 +1,13 @@
+use borrow.Author.Rules.{rules}
+use mathlib.Core.Path.{◌∙◌, ap}
+use lib.ListN.{get_or}
+use Rattle.opcodes.proofs.Cells.{cell_number_below, map_unpacked, unpacked}
+use Rattle.opcodes.proofs.cell_at.Goals as goal
+
+pub bounds-map-number : goal.bounds-map-number
+bounds-map-number c = rw c.cell_number-number.ensures (cell_number_below c.args.second c.ranges.opcode.fits)
+
+pub returns : goal.returns
+returns c =
+    rw (c.requires, c.cell_number-number.ensures)
+    (map_unpacked _ (cell_number_below c.args.second c.ranges.opcode.fits))

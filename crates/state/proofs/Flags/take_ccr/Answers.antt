@@ -1,0 +1,6 @@
+use mathlib.Core.Path.{◌∙◌}
+use borrow.Author.Rules.{rules}
+use Rattle.state.proofs.Flags.take_ccr.Goals as goal
+
+pub returns : goal.returns
+returns c = c.with_x.ensures ∙ rw c.of_ccr-taken.ensures

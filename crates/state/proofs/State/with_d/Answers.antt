@@ -1,0 +1,8 @@
+use mathlib.Core.Path.{◌∙◌}
+use borrow.Author.Rules.{rules}
+use Rattle.state.proofs.State.with_d.Goals as goal
+
+pub returns : goal.returns
+returns c =
+    c.with_b.ensures
+    ∙ rw (c.with_a.ensures, c.low.ensures, c.high.ensures)

@@ -1,0 +1,11 @@
+use native.Mathlib.Omega.{arith}
+use mathlib.Core.Path.{sym}
+use lib.Seq.{length-take-le, take_all}
+use borrow.Author.Rules.{rules}
+use Rattle.text.proofs.first.Goals as goal
+
+pub slice_bounds-result-end : goal.slice_bounds-result-end
+slice_bounds-result-end c = sym (length-take-le _ _ (omega arith))
+
+pub returns : goal.returns
+returns c = sym (take_all _ _ c.if-n-bytes.false)
