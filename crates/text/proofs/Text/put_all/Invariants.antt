@@ -8,10 +8,8 @@ use Rattle.text.specs.Text.{Followed}
 use Rattle.text.proofs.Laws.{none_yet, one_more_lem}
 use Rattle.text.proofs.Text.put_all.Given as goal
 
--- OLD invariant-loop loops=[[["loop", "loop-i"], ["more", "text", "i"]]]
-abbrev invariant-loop : tie.invariant-loop
-invariant-loop more text₀ i₀ text i = (i ≤ length more) × Followed text₀ (take i more) text
+abbrev pub invariant-loop-i : goal.invariant-loop-i
+invariant-loop-i l = (l.i ≤ length l.more) × Followed l.initial.text (take l.i l.more) l.text
 
--- OLD decreases-loop loops=[[["loop", "loop-i"], ["more", "text", "i"]]]
-abbrev decreases-loop : tie.decreases-loop
-decreases-loop more text₀ i₀ text i = length more - i
+abbrev pub decreases-loop-i : goal.decreases-loop-i
+decreases-loop-i l = length l.more - l.i

@@ -1,0 +1,5 @@
+use Rattle.std.proofs.Common.{rules}
+use Rattle.alu.proofs.inx.Goals as goal
+
+pub returns : goal.returns
+returns c = rw (c.with_z-flags.ensures, c.plus-r.ensures)

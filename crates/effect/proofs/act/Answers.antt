@@ -1,0 +1,6 @@
+use borrow.Author.Rules.{rules}
+use Rattle.effect.proofs.act.Goals as goal
+
+pub returns : goal.returns
+returns c =
+    (c.with_clock.ensures, c.commit.ensures)

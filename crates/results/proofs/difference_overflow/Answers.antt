@@ -1,0 +1,5 @@
+use mathlib.Core.Path.{refl}
+use Rattle.results.proofs.difference_overflow.Goals as goal
+
+pub returns : goal.returns
+returns c = refl

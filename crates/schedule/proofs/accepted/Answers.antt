@@ -1,0 +1,5 @@
+use borrow.Author.Rules.{rules}
+use Rattle.schedule.proofs.accepted.Goals as goal
+
+pub returns : goal.returns
+returns c = rw c.rising.ensures

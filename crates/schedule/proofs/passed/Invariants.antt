@@ -1,0 +1,14 @@
+use Prim.Native.Nat.{◌-◌, ◌≤◌}
+use native.Mathlib.Omega.{arith}
+use native.Mathlib.Numerals.{add-one}
+use borrow.Author.Rules.{rules}
+use lib.ListN.{length}
+use Rattle.schedule.specs.Schedule.{passed}
+use Rattle.schedule.proofs.Laws.{passed_inside, passed_here, passed_on}
+use Rattle.schedule.proofs.passed.Given as goal
+
+abbrev pub invariant-loop-place : goal.invariant-loop-place
+invariant-loop-place l = l.place ≤ passed l.cycles l.clock
+
+abbrev pub decreases-loop-place : goal.decreases-loop-place
+decreases-loop-place l = length l.cycles - l.place
