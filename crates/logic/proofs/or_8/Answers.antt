@@ -1,0 +1,5 @@
+use borrow.Author.Rules.{rules}
+use Rattle.logic.proofs.or_8.Goals as goal
+
+pub returns : goal.returns
+returns c = rw c.result_8-flags.ensures

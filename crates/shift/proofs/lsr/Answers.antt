@@ -1,0 +1,5 @@
+use borrow.Author.Rules.{rules}
+use Rattle.shift.proofs.lsr.Goals as goal
+
+pub returns : goal.returns
+returns c = rw (c.codes_8-flags.ensures, c.lowest.ensures, c.right_8-r.ensures)
