@@ -7,7 +7,7 @@ ghost use Rattle.table.specs.Records.{record_is, room, no_records, with_record, 
 use machine::Machine;
 
 // From this cycle on, this line byte.
-#[derive(Drop)]
+#[derive(Clone, Copy)]
 pub struct Record {
     pub cycle: u32,
     pub line: u8,
@@ -48,8 +48,8 @@ pub fn empty() -> Table
 pub fn put(t: Table, r: Record) -> Table
     ensures { result ≡ with_record t r }
 {
-    let mut y = t;
     let i = t.count;
+    let mut y = t;
     if i < ROOM {
         y.cycles[i] = r.cycle;
         y.lines[i] = r.line;

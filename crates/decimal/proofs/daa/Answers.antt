@@ -10,7 +10,7 @@ returns c =
     rw (
       c.nzvc-flags.ensures,
       c.top_8.ensures,
-      c.wrapping_add_u8-r.ensures,
+      c.wrapping_add_u8-r.ensures.value,
       c.part-2.ensures.0,
       c.part.ensures.0,
       c.past_high.ensures,

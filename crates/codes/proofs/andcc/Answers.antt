@@ -1,0 +1,5 @@
+use Rattle.std.proofs.Common.{rules}
+use Rattle.codes.proofs.andcc.Goals as goal
+
+pub returns : goal.returns
+returns c = rw (c.take_ccr.ensures, c.ccr.ensures)

@@ -1,0 +1,11 @@
+use Rattle.std.proofs.Common.{rules, le-ltb, lt-ltb}
+use Rattle.codes.proofs.counted_16.Goals as goal
+
+pub returns-then-kind-lt2 : goal.returns-then-kind-lt2
+returns-then-kind-lt2 c = rw (c.minus.ensures, lt-ltb _ _ c.if-kind-lt2.true)
+
+pub returns-then-kind-lt4 : goal.returns-then-kind-lt4
+returns-then-kind-lt4 c = rw (le-ltb _ _ c.if-kind-lt2.false, lt-ltb _ _ c.if-kind-lt4.true)
+
+pub returns : goal.returns
+returns c = rw (c.plus.ensures, le-ltb _ _ c.if-kind-lt2.false, le-ltb _ _ c.if-kind-lt4.false)
