@@ -1,0 +1,6 @@
+use borrow.Author.Rules.{rules}
+use Rattle.execute16.proofs.byte_stored.Goals as goal
+
+pub returns : goal.returns
+returns c =
+    rw (c.writes.ensures, c.byte.ensures, c.with_flags.ensures, c.result_8.ensures)

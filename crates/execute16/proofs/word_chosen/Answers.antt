@@ -1,0 +1,5 @@
+use borrow.Author.Rules.{rules}
+use Rattle.execute16.proofs.word_chosen.Goals as goal
+
+pub returns : goal.returns
+returns c = rw (c.writes.ensures, c.word.ensures, c.with_flags.ensures)

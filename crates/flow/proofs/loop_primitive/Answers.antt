@@ -1,0 +1,7 @@
+use Rattle.flow.specs.Branches.{loop_done}
+use borrow.Author.Rules.{rules}
+use Rattle.flow.proofs.loop_primitive.Goals as goal
+
+pub returns : goal.returns
+unfolding loop_done
+returns c = rw (c.looped.ensures, c.extend_9.ensures)
