@@ -1,0 +1,6 @@
+use borrow.Author.Rules.{rules}
+use Rattle.products.proofs.read_long.Goals as goal
+
+pub returns : goal.returns
+returns c =
+    rw (c.long.ensures, c.read_word-low.ensures, c.plus.ensures, c.read_word-high.ensures)

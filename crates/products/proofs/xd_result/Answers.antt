@@ -1,0 +1,5 @@
+use borrow.Author.Rules.{rules}
+use Rattle.products.proofs.xd_result.Goals as goal
+
+pub returns : goal.returns
+returns c = rw (c.with_flags.ensures, c.with_d.ensures, c.with_x.ensures)
