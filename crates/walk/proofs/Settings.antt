@@ -39,11 +39,11 @@ module _ {b : Before} where
   held begins k = k.registers
   held (sets_a w h) k = r.set_a (held w k) (h k)
   held (sets_b w h) k = r.set_b (held w k) (h k)
-  held (sets_x w h) k = r.set-x (held w k) (h k)
-  held (sets_y w h) k = r.set-y (held w k) (h k)
-  held (sets_sp w h) k = r.set-sp (held w k) (h k)
-  held (sets_pc w h) k = r.set-pc (held w k) (h k)
-  held (sets_codes w h) k = r.set-flags (held w k)
+  held (sets_x w h) k = r.set_x_lem (held w k) (h k)
+  held (sets_y w h) k = r.set_y (held w k) (h k)
+  held (sets_sp w h) k = r.set_sp (held w k) (h k)
+  held (sets_pc w h) k = r.set_pc (held w k) (h k)
+  held (sets_codes w h) k = r.set_flags (held w k)
 
   -- and X is set only where it was set before
   pub x_before : {s : State} → Comes b s → s.flags.x ≡ true → b.state.flags.x ≡ true
@@ -77,7 +77,7 @@ module _ {b : Before} where
       record {
         address = λ k. omega arith;
         bytes = λ k. stored_bytes (frame_store s) (ccr_below s.flags);
-        whole = λ k. r.frame-whole (held w k);
+        whole = λ k. r.frame_whole (held w k);
       }
 
 -- An instruction comes to s; and where it begins with the clock at c instead, it comes to u, which is s but for that clock. The same of
@@ -106,7 +106,7 @@ module _ {b : Before} {c : ℕ} where
   fit w k = held w.comes k
 
   pub d_fit : {s u : State} → Leads b c s u → Fits b → d_of s < 65536
-  d_fit w k = r.d-word (fit w k)
+  d_fit w k = r.d_word (fit w k)
 
   -- a register set, by the states that it gives
   pub set_a : {s u : State} {v : ℕ} → Leads b c s u → (Fits b → v < 256) → Leads b c (with_a s v) (with_a u v)
