@@ -1,0 +1,44 @@
+use borrow.Author.Rules.{rules}
+use mathlib.Core.Path.{sym, ◌∙◌, ap}
+use Rattle.state.specs.declared.State.{State}
+use Rattle.refusals.specs.Given.{given_is}
+use Rattle.run.specs.Run.{run_of}
+use Rattle.table.specs.declared.Table.{Table}
+use Rattle.table.specs.Records.{table_cycles, table_lines}
+use Rattle.records.proofs.First.{same_run}
+use Rattle.steps.proofs.Loop.{ends_same}
+use Rattle.packing.specs.Bytes.{state_of, records_of}
+use Rattle.lent.proofs.Laws.{none_first, accepted}
+use Rattle.cpu12.proofs.Laws.{door_refuses, door_opens, told_leaves}
+use Rattle.cpu12.proofs.cpu12_run.Goals as goal
+
+pub state_of-before-requires : goal.state_of-before-requires
+state_of-before-requires c =
+    let lent = c.args in
+    let none = none_first _ _ (sym c.lent_refusal-refusal.ensures ∙ c.if-refusal-ne0.false) in
+    (accepted lent.state-1.now none).whole
+
+pub told-requires : goal.told-requires
+told-requires c =
+    let lent = c.args in
+    let none = none_first _ _ (sym c.lent_refusal-refusal.ensures ∙ c.if-refusal-ne0.false) in
+    (accepted lent.state-1.now none).whole
+
+pub returns : goal.returns
+returns c =
+    let lent = c.args in
+    let m = lent.m-1.now in
+    let s = state_of lent.state-1.now in
+    let rs = records_of lent.schedule.now in
+    let t = c.unpacked-t.result in
+    let is_state = c.of.ensures ∙ c.state_of-before.ensures in
+    let of-record = ap (λ (s : State). run_of s m (given_is (table_cycles t) (table_lines t)) lent.budget) is_state in
+    let is-table = c.unpacked-t.ensures in
+    let of-records = ap (λ (t : Table). run_of s m (given_is (table_cycles t) (table_lines t)) lent.budget) is-table in
+    door_opens _ _ _ _ c.lent_refusal-refusal.ensures c.if-refusal-ne0.false
+    (told_leaves
+    (ends_same (sym (of-record ∙ of-records ∙ same_run s m rs lent.budget)) c.run_table.ensures)
+    c.told.ensures)
+
+pub returns-then-refusal-ne0 : goal.returns-then-refusal-ne0
+returns-then-refusal-ne0 c = door_refuses _ _ _ _ c.lent_refusal-refusal.ensures c.if-refusal-ne0.true

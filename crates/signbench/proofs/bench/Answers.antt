@@ -1,0 +1,7 @@
+use borrow.Author.Rules.{rules}
+use Rattle.signbench.proofs.bench.Goals as goal
+
+pub returns : goal.returns
+returns c =
+    let end = c.run-answer.ensures in
+    rw (c.line.ensures, c.number.ensures, end.reply, end.cycles, end.state-1, c.reset-started.ensures.1)
