@@ -6,7 +6,7 @@ use Rattle.cpu12.proofs.cpu12_reset.Goals as goal
 
 pub put_record-requires : goal.put_record-requires
 put_record-requires c =
-    other_length c.args.state-1.now
+    other_length c.args.state.now
     (sym c.length_refusal-refusal.ensures ∙ c.if-refusal-ne0.false)
 
 pub returns : goal.returns

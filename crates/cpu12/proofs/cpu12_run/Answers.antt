@@ -16,19 +16,19 @@ pub state_of-before-requires : goal.state_of-before-requires
 state_of-before-requires c =
     let lent = c.args in
     let none = none_first _ _ (sym c.lent_refusal-refusal.ensures ∙ c.if-refusal-ne0.false) in
-    (accepted lent.state-1.now none).whole
+    (accepted lent.state.now none).whole
 
 pub told-requires : goal.told-requires
 told-requires c =
     let lent = c.args in
     let none = none_first _ _ (sym c.lent_refusal-refusal.ensures ∙ c.if-refusal-ne0.false) in
-    (accepted lent.state-1.now none).whole
+    (accepted lent.state.now none).whole
 
 pub returns : goal.returns
 returns c =
     let lent = c.args in
-    let m = lent.m-1.now in
-    let s = state_of lent.state-1.now in
+    let m = lent.m.now in
+    let s = state_of lent.state.now in
     let rs = records_of lent.schedule.now in
     let t = c.unpacked-t.result in
     let is_state = c.of.ensures ∙ c.state_of-before.ensures in
