@@ -4,6 +4,7 @@
 
 use results::Byte;
 use state::Flags;
+use std::io;
 
 // A byte more of the sum.
 fn fold(v: u32, b: u8) -> u32 {
@@ -105,65 +106,68 @@ fn over_bytes(start: u32, op: u8, f: Flags) -> u32 {
     v
 }
 
-fn print(name: &[u8], sum: u32) {
-    io::write_all(1, name);
-    io::write_all(1, b" ");
-    io::print_decimal(1, sum as u64);
-    io::write_all(1, b"\n");
+fn print(rt: &impl Print, name: &str, sum: u32) -> io::Result<()> {
+    println!(rt; "{name} {sum}")
 }
 
-fn print_binary(name: &[u8], op: u8) {
-    let clear = Flags::cleared();
-    print(name, over_x(over_x(1, op, clear), op, clear.with_c(true)));
-}
-
-fn print_unary(name: &[u8], op: u8) {
+fn print_binary(rt: &impl Print, name: &str, op: u8) -> io::Result<()> {
     let clear = Flags::cleared();
     print(
+        rt,
+        name,
+        over_x(over_x(1, op, clear), op, clear.with_c(true)),
+    )
+}
+
+fn print_unary(rt: &impl Print, name: &str, op: u8) -> io::Result<()> {
+    let clear = Flags::cleared();
+    print(
+        rt,
         name,
         over_bytes(over_bytes(1, op, clear), op, clear.with_c(true)),
-    );
+    )
 }
 
 // DAA reads H too: clear first, then set.
-fn print_daa() {
+fn print_daa(rt: &impl Print) -> io::Result<()> {
     let clear = Flags::cleared();
     let v = over_bytes(over_bytes(1, 12, clear), 12, clear.with_c(true));
     let half = clear.with_h(true);
     print(
-        b"DAA",
+        rt,
+        "DAA",
         over_bytes(over_bytes(v, 12, half), 12, half.with_c(true)),
-    );
+    )
 }
 
-fn main() {
-    print_binary(b"ADD", 0);
-    print_binary(b"ADC", 1);
-    print_binary(b"SUB", 2);
-    print_binary(b"SBC", 3);
-    print_binary(b"AND", 4);
-    print_binary(b"OR", 5);
-    print_binary(b"EOR", 6);
-    print_binary(b"BIT", 7);
-    print_binary(b"CMP", 8);
-    print_binary(b"BSET", 9);
-    print_binary(b"BCLR", 10);
-    print_binary(b"MAX", 11);
-    print_binary(b"MIN", 12);
-    print_binary(b"BRSET", 13);
-    print_binary(b"BRCLR", 14);
-    print_binary(b"MUL", 15);
-    print_unary(b"CLR", 0);
-    print_unary(b"COM", 1);
-    print_unary(b"NEG", 2);
-    print_unary(b"INC", 3);
-    print_unary(b"DEC", 4);
-    print_unary(b"ASL", 5);
-    print_unary(b"LSR", 6);
-    print_unary(b"ASR", 7);
-    print_unary(b"ROL", 8);
-    print_unary(b"ROR", 9);
-    print_unary(b"TST", 10);
-    print_unary(b"LD", 11);
-    print_daa();
+fn main(rt: HostRuntime) -> io::Result<()> {
+    print_binary(&rt, "ADD", 0)?;
+    print_binary(&rt, "ADC", 1)?;
+    print_binary(&rt, "SUB", 2)?;
+    print_binary(&rt, "SBC", 3)?;
+    print_binary(&rt, "AND", 4)?;
+    print_binary(&rt, "OR", 5)?;
+    print_binary(&rt, "EOR", 6)?;
+    print_binary(&rt, "BIT", 7)?;
+    print_binary(&rt, "CMP", 8)?;
+    print_binary(&rt, "BSET", 9)?;
+    print_binary(&rt, "BCLR", 10)?;
+    print_binary(&rt, "MAX", 11)?;
+    print_binary(&rt, "MIN", 12)?;
+    print_binary(&rt, "BRSET", 13)?;
+    print_binary(&rt, "BRCLR", 14)?;
+    print_binary(&rt, "MUL", 15)?;
+    print_unary(&rt, "CLR", 0)?;
+    print_unary(&rt, "COM", 1)?;
+    print_unary(&rt, "NEG", 2)?;
+    print_unary(&rt, "INC", 3)?;
+    print_unary(&rt, "DEC", 4)?;
+    print_unary(&rt, "ASL", 5)?;
+    print_unary(&rt, "LSR", 6)?;
+    print_unary(&rt, "ASR", 7)?;
+    print_unary(&rt, "ROL", 8)?;
+    print_unary(&rt, "ROR", 9)?;
+    print_unary(&rt, "TST", 10)?;
+    print_unary(&rt, "LD", 11)?;
+    print_daa(&rt)
 }

@@ -5,12 +5,14 @@ ghost use Rattle.std.specs.Prelude.{◌≤◌, length};
 
 use machine::{Machine, Reply};
 use state::{Flags, State};
+use std::io;
+use std::io::Read;
 use steps::Answer;
 use table::{Record, Table};
 use text::Text;
 
 // What a line was found to hold from a place on: a number, and where it ends. Not ok: no such number, and 0s.
-#[derive(Drop)]
+#[derive(Clone, Copy)]
 struct Parsed {
     ok: bool,
     value: u32,
@@ -18,7 +20,7 @@ struct Parsed {
 }
 
 // The registers that a line gives, and where they end.
-#[derive(Drop)]
+#[derive(Clone, Copy)]
 struct Given {
     ok: bool,
     state: State,
@@ -34,7 +36,7 @@ struct Listed {
 }
 
 // Whether the input goes on, and how many bytes of an unfinished line are held.
-#[derive(Drop)]
+#[derive(Clone, Copy)]
 struct Reading {
     more: bool,
     held: usize,
@@ -380,12 +382,13 @@ fn case(line: &[u8], memory: &mut [u8]) -> Text
 }
 
 // Answers the line that is the first n bytes of `line`.
-fn finish(line: &[u8], n: usize, memory: &mut [u8])
+fn finish(out: &impl Print, line: &[u8], n: usize, memory: &mut [u8]) -> io::Result<()>
     requires { length memory.old ≤ 65537 }
 {
     if n <= line.len() {
-        case(&line[..n], memory).print();
+        return case(&line[..n], memory).print(out);
     }
+    Ok(())
 }
 
 // Adds b to the n bytes held, if there is room. The room is 4,096 bytes and
@@ -399,7 +402,13 @@ fn keep(line: &mut [u8], n: usize, b: u8) -> usize {
 }
 
 // Takes in what was read, answering each line that it ends, and says how many bytes are held then.
-fn take(chunk: &[u8], line: &mut [u8], held: usize, memory: &mut [u8]) -> usize
+fn take(
+    out: &impl Print,
+    chunk: &[u8],
+    line: &mut [u8],
+    held: usize,
+    memory: &mut [u8],
+) -> io::Result<usize>
     requires { length memory.old ≤ 65537 }
 {
     let mut n = held;
@@ -407,58 +416,63 @@ fn take(chunk: &[u8], line: &mut [u8], held: usize, memory: &mut [u8]) -> usize
     while i < chunk.len() {
         let b = chunk[i];
         if b == b'\n' {
-            finish(line, n, memory);
+            finish(out, line, n, memory)?;
             n = 0;
         } else {
             n = keep(line, n, b);
         }
         i += 1;
     }
-    n
+    Ok(n)
 }
 
-fn read_more(line: &mut [u8], held: usize, memory: &mut [u8]) -> Reading
+fn read_more(
+    rt: &(impl Print + Input),
+    line: &mut [u8],
+    held: usize,
+    memory: &mut [u8],
+) -> io::Result<Reading>
     requires { length memory.old ≤ 65537 }
 {
-    let mut chunk = io::large_buffer();
-    let got = libc::read(0, &mut chunk);
-    let n = io::count(got, &chunk);
-    let left = take(&chunk[..n], line, held, memory);
-    Reading {
-        more: got > 0,
+    let mut chunk = [0u8; 65536];
+    let n = rt.reader().read(&mut chunk)?;
+    let left = take(rt, &chunk[..n], line, held, memory)?;
+    Ok(Reading {
+        more: n > 0,
         held: left,
-    }
+    })
 }
 
 // Reads to the end of the input, and says how many bytes of a last line without its end are held. A proved loop has
 // to end, and nothing says that the input does: it counts down from a number that no run uses up.
-fn drain(line: &mut [u8], memory: &mut [u8]) -> usize
+fn drain(rt: &(impl Print + Input), line: &mut [u8], memory: &mut [u8]) -> io::Result<usize>
     requires { length memory.old ≤ 65537 }
 {
     let mut held = 0;
     let mut reads = u64::MAX;
     while reads > 0 {
-        let reading = read_more(line, held, memory);
+        let reading = read_more(rt, line, held, memory)?;
         held = reading.held;
         if !reading.more {
-            return held;
+            return Ok(held);
         }
         reads -= 1;
     }
-    held
+    Ok(held)
 }
 
-fn answer_all(line: &mut [u8], memory: &mut [u8])
+fn answer_all(rt: &(impl Print + Input), line: &mut [u8], memory: &mut [u8]) -> io::Result<()>
     requires { length memory.old ≤ 65537 }
 {
-    let held = drain(line, memory);
+    let held = drain(rt, line, memory)?;
     if held > 0 {
-        finish(line, held, memory);
+        return finish(rt, line, held, memory);
     }
+    Ok(())
 }
 
-fn main() {
-    let mut line = io::buffer();
+fn main(rt: HostRuntime) -> io::Result<()> {
+    let mut line = [0u8; 4096];
     let mut memory = [0u8; 65537];
-    answer_all(&mut line, &mut memory);
+    answer_all(&rt, &mut line, &mut memory)
 }

@@ -6,6 +6,7 @@ ghost use Rattle.opcodes.specs.Grid.{grid as grid_of};
 ghost use Rattle.opcodes.specs.Map.{opcode_map};
 
 use opcodes::{Cell, group, kind, member};
+use std::io;
 use text::Text;
 
 // The mnemonics of each group of kinds, seven letters each.
@@ -170,10 +171,11 @@ fn line(map: &[u32; 512], grid: &[[u8; 8]; 18], k: u16) -> Text
     put_cost(named(second, opcode, c), grid, c).put(b'\n')
 }
 
-fn main() {
+fn main(rt: HostRuntime) -> io::Result<()> {
     let map = opcodes::map();
     let grid = opcodes::grid();
     for k in 0u16..512 {
-        line(&map, &grid, k).print();
+        line(&map, &grid, k).print(&rt)?;
     }
+    Ok(())
 }

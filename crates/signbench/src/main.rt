@@ -1,12 +1,14 @@
 // The sign bench: reads an image from standard input, resets the machine, runs it without requests, and prints one line.
 #![tactic(auto)]
 
-ghost use Rattle.std.specs.Prelude.{◌≡◌};
+ghost use Rattle.std.specs.Prelude.{◌≡◌, ◌≤◌, length, IfOk};
 ghost use Rattle.text.specs.Text.{written};
 ghost use Rattle.signbench.specs.Bench.{benched, line_of, bench_line};
 
 use machine::Machine;
 use state::State;
+use std::io;
+use std::io::Read;
 use text::Text;
 
 const BUDGET: u32 = 1000000;
@@ -40,9 +42,24 @@ fn bench(image: &mut [u8]) -> Text
     line(reply.number(), answer.cycles, state)
 }
 
+// Reads until the image is full or the input ends, and says how many bytes were read.
+fn read_full(input: &mut impl Read, image: &mut [u8]) -> io::Result<usize>
+    ensures { IfOk result (λ n. n ≤ length image.new) }
+{
+    let mut n = 0;
+    while n < image.len() {
+        let got = input.read(&mut image[n..])?;
+        if got == 0 {
+            break;
+        }
+        n += got;
+    }
+    Ok(n)
+}
+
 // One byte more than an image has: where that is filled too, the image is too long, and the rest need not be read.
-fn main() {
+fn main(rt: HostRuntime) -> io::Result<()> {
     let mut image = [0u8; 65537];
-    let n = io::read_full(0, &mut image);
-    bench(&mut image[..n]).print();
+    let n = read_full(&mut rt.stdin(), &mut image)?;
+    bench(&mut image[..n]).print(&rt)
 }

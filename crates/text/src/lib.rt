@@ -5,10 +5,12 @@
 ghost use Rattle.std.specs.Prelude.{◌≡◌, [], ◌∷◌, ◌≤◌, ◌<◌, take};
 ghost use Rattle.text.specs.Text.{blank, Followed, digit_of, hex_byte, hex_word, numeral};
 
+use std::io;
+
 const DIGITS: [u8; 16] = *b"0123456789ABCDEF";
 
 // The first `len` places are written.
-#[derive(Drop)]
+#[derive(Clone, Copy)]
 pub struct Text {
     bytes: [u8; 80],
     len: usize,
@@ -100,9 +102,9 @@ impl Text {
         self.put_hex_byte(word::high(w)).put_hex_byte(word::low(w))
     }
 
-    // No promise can say what a call of the C library writes. What it is handed is, by the promise of `first`, what is written.
-    pub fn print(self) {
+    // No promise can say what reaches the output. What it is handed is, by the promise of `first`, what is written.
+    pub fn print(self, out: &impl Print) -> io::Result<()> {
         let bytes = self.bytes;
-        io::write_all(1, first(&bytes, self.len));
+        out.write_all(first(&bytes, self.len))
     }
 }
