@@ -11,6 +11,8 @@ ghost use Rattle.migrate.specs.Page.{page_text, answer_to, answer_of, Answers};
 use machine::Machine;
 use page::Page;
 use reading::{Lines, Reading};
+use std::io;
+use std::io::Read;
 
 // What is printed for the records of good lines, or where a line is not good.
 fn answer_to(good: bool, cycles: &[u32], lines: &[u8]) -> Page
@@ -48,14 +50,19 @@ struct Chunk {
     failed: bool,
 }
 
-fn next_chunk() -> Chunk {
-    let mut bytes = io::buffer();
-    let got = libc::read(0, &mut bytes);
-    let n = io::count(got, &bytes);
-    Chunk {
-        bytes: bytes,
-        n: n,
-        failed: got < 0,
+fn next_chunk(input: &impl Input) -> Chunk {
+    let mut bytes = [0u8; 4096];
+    match input.reader().read(&mut bytes) {
+        Ok(n) => Chunk {
+            bytes: bytes,
+            n: n,
+            failed: false,
+        },
+        Err(_) => Chunk {
+            bytes: bytes,
+            n: 0,
+            failed: true,
+        },
     }
 }
 
@@ -71,13 +78,13 @@ fn migrate_chunk(before: Reading, chunk: Chunk) -> Page {
 
 // Reads to the end of the input, one part ahead, so that its last part is at hand when the end is met: a text that comes in one part is
 // handed over whole. A proved loop has to end, and nothing says that the input does: it counts down from a number that no run uses up.
-fn answer_input() -> Page {
+fn answer_input(input: &impl Input) -> Page {
     let mut s = reading::begin();
-    let mut held = next_chunk();
+    let mut held = next_chunk(input);
     let mut failed = held.failed;
     let mut reads = u64::MAX;
     while reads > 0 {
-        let next = next_chunk();
+        let next = next_chunk(input);
         failed = failed | next.failed;
         if next.n == 0 {
             break;
@@ -92,6 +99,6 @@ fn answer_input() -> Page {
     migrate_chunk(s, held)
 }
 
-fn main() {
-    answer_input().print();
+fn main(rt: HostRuntime) -> io::Result<()> {
+    answer_input(&rt).print(&rt)
 }

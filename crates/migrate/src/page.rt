@@ -7,6 +7,7 @@ ghost use Rattle.migrate.specs.Migrated.{cleared_byte, altered_count, record_lin
 ghost use Rattle.migrate.specs.Page.{page_text, empty_page, with_text, text_of, paired, with_kept};
 
 use machine::Machine;
+use std::io;
 use text::Text;
 
 // As many lines as a schedule may have records, and the line that counts.
@@ -77,16 +78,17 @@ impl Page {
         self
     }
 
-    // No promise can say what a call of the C library writes.
-    pub fn print(self) {
+    // No promise can say what reaches the output.
+    pub fn print(self, out: &impl Print) -> io::Result<()> {
         let mut i = 0;
         while i < ROOM {
             if i < self.count {
                 let line = self.lines[i];
-                line.print();
+                line.print(out)?;
             }
             i += 1;
         }
+        Ok(())
     }
 }
 

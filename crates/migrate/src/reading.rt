@@ -6,7 +6,7 @@ ghost use Rattle.migrate.specs.Reading.{longer as longer_of, started as started_
 use table::{Record, Table};
 
 // What is read of a line. Once it can become no record it is wrong, whatever follows.
-#[derive(Drop)]
+#[derive(Clone, Copy)]
 pub enum Part {
     Nothing,
     // The digits of a cycle number.

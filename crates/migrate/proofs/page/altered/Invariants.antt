@@ -1,0 +1,15 @@
+use Prim.Native.Nat.{◌+◌, ◌≤◌, ◌-◌}
+use native.Mathlib.Omega.{arith}
+use mathlib.Core.Path.{◌≡◌, sym, ◌∙◌}
+
+use lib.ListN.{length, drop}
+use borrow.Author.Rules.{rules}
+use Rattle.migrate.specs.Migrated.{altered_count}
+use Rattle.migrate.proofs.Pages.{one_altered, none_altered, all_altered}
+use Rattle.migrate.proofs.page.altered.Given as goal
+
+abbrev pub invariant-loop-i : goal.invariant-loop-i
+invariant-loop-i l = ((l.i ≤ length l.lines) × (l.n ≤ l.i)) × (l.n + altered_count (drop l.i l.lines) ≡ altered_count l.lines)
+
+abbrev pub decreases-loop-i : goal.decreases-loop-i
+decreases-loop-i l = length l.lines - l.i
