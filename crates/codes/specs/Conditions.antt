@@ -1,6 +1,6 @@
 -- The condition code register under instructions that take a whole byte into it, and the branch conditions, from the glossary of source
 -- document 002 (section 6.6).
-use Rattle.std.specs.Prelude.{◌≡◌, ℕ, Bool, true, false, not, ◌&&◌, ◌||◌, List, [], ◌∷◌, bit_and, bit_or, slice_index_or}
+use Rattle.std.specs.Prelude.{◌≡◌, ℕ, Bool, true, false, not, ◌||◌, List, [], ◌∷◌, bit_and, bit_or, slice_index_or}
 use Rattle.state.specs.declared.Flags.{Flags}
 use Rattle.results.specs.Results.{exclusive_or}
 use Rattle.state.specs.Ccr.{ccr_of, flags_of, take_ccr}

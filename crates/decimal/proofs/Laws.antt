@@ -1,5 +1,5 @@
 -- DAA's table told by four comparisons, and the bounds of a table lookup. Assumes nothing.
-use Rattle.std.proofs.Common.{◌≡◌, ℕ, ◌+◌, ◌-◌, ◌*◌, ◌/◌, ◌%◌, ◌<◌, ◌≤◌, max, Bool, true, false, not, ◌&&◌, ◌||◌, T, eqb, leb, sym, refl, ◌∙◌, le_of_lt, mul-le-mul_right, arith, eqb→eq, leb-false, leb-true}
+use Rattle.std.proofs.Common.{◌≡◌, ℕ, ◌+◌, ◌-◌, ◌*◌, ◌/◌, ◌%◌, ◌<◌, ◌≤◌, max, Bool, true, false, not, ◌&&◌, ◌||◌, T, eqb, leb, refl, le_of_lt, mul-le-mul_right, arith, eqb→eq, leb-false, leb-true}
 use native.Mathlib.Nat.{le-max_left, le-max_right}
 use Rattle.word.specs.Word.{pick}
 use Rattle.word.proofs.Table.{same, same_is, every_below, at_number}

@@ -2,7 +2,7 @@
 -- the state after the operand's base register has stepped, with PC after the whole instruction; the kind, the operand, its address, the
 -- cost. The groups of the opcode map then say where these numbers come from. The operations are those of the glossary (002, section 6.6),
 -- each on the page that is named beside the instruction.
-use Rattle.std.specs.Prelude.{ℕ, Bool, true, false, List, eqb}
+use Rattle.std.specs.Prelude.{ℕ, false, List, eqb}
 use Rattle.word.specs.Word.{pick}
 use Rattle.memory.specs.Memory.{byte_at, store_byte}
 use Rattle.state.specs.declared.Flags.{Flags}
@@ -14,7 +14,6 @@ use Rattle.results.specs.Results.{byte_of, result_codes}
 use Rattle.logic.specs.Logic.{and_byte, or_byte, eor_byte, com_byte, clr_byte, tst_byte}
 use Rattle.alu.specs.Alu.{add_byte, sub_byte, neg_byte, inc_byte, dec_byte}
 use Rattle.shift.specs.Shift.{lsr_byte, rol_byte, ror_byte, asr_byte, asl_byte}
-use Rattle.operand.specs.declared.Place.{Place}
 use Rattle.operand.specs.Operand.{operand_place}
 use Rattle.decode.specs.declared.Decoded.{Decoded}
 use Rattle.effect.specs.declared.Effect.{Effect}

@@ -1,5 +1,5 @@
 -- The laws of the refusals of what is lent, on the definitions alone. Assumes nothing.
-use Prim.Native.Nat.{ℕ, zero, suc, ◌+◌, ◌-◌, ◌<◌, ◌≤◌}
+use Prim.Native.Nat.{ℕ, suc, ◌+◌, ◌-◌, ◌<◌, ◌≤◌}
 use native.Mathlib.Omega.{arith}
 use mathlib.Core.Path.{◌≡◌, refl, sym, ◌∙◌, ap}
 use native.Mathlib.Numerals.{add-one}
@@ -12,7 +12,7 @@ use borrow.Author.Tests.{eq-eqb, ne_eqb, eqb-true, ltb-false, le-ltb}
 use Rattle.word.specs.Word.{pick}
 use Rattle.packing.specs.Bytes.{byte_in, record_size, waiting_place, reserved_place, reserved_bytes}
 use Rattle.packing.specs.Again.{IsRecord}
-use Rattle.lent.specs.Lent.{wrong_length, wrong_flag, wrong_reserved, all_zero, length_refusal, flag_refusal, reserved_refusal, record_refusal, first_of}
+use Rattle.lent.specs.Lent.{wrong_length, wrong_flag, wrong_reserved, all_zero, length_refusal, flag_refusal, record_refusal, first_of}
 
 -- a record of another length is refused
 pub other_length : (r : List ℕ) → length_refusal r ≡ 0 → length r ≡ record_size

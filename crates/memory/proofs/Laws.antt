@@ -7,7 +7,7 @@ use lib.ListN.{length, get_or, set, length-set}
 use lib.Dec.{ltb}
 use borrow.Author.Tests.{lt-ltb, le-ltb}
 use lib.Seq.{get_or-set_same, get_or-set_other, ext_get_or}
-use native.Mathlib.Decide.{dec_le, dec_lt, ℕ_discrete}
+use native.Mathlib.Decide.{dec_lt, ℕ_discrete}
 use Rattle.word.specs.Word.{pick, high_of, low_of, word_of, long_of, plus_w, minus_w}
 use Rattle.memory.specs.declared.Store.{Store}
 use Rattle.memory.specs.Memory.{byte_at, nth_byte, lowest_bytes, bytes_stored, store_all, committed, no_store, AreBytes, StoresExactly, StoreByByte}

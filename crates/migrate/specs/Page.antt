@@ -1,5 +1,5 @@
 -- Inner definitions: the page that the program prints, and how its lines are put on it.
-use Rattle.std.specs.Prelude.{ℕ, ◌+◌, ◌≡◌, Bool, ◌&&◌, List, [], ◌∷◌, ◌++◌, ltb, eqb, length, take, set, replicate}
+use Rattle.std.specs.Prelude.{ℕ, ◌+◌, ◌≡◌, Bool, ◌&&◌, List, [], ◌∷◌, ◌++◌, ltb, eqb, take, set, replicate}
 use Rattle.word.specs.Word.{pick}
 use Rattle.schedule.specs.Schedule.{accepted}
 use Rattle.machine.specs.Names.{record_limit}

@@ -1,5 +1,5 @@
 -- Postbytes: the address form of an indexed one, and which are reserved.
-use Rattle.std.specs.Prelude.{ℕ, ◌+◌, ◌/◌, ◌%◌, ◌<◌, ◌≡◌, Bool, true, false, ◌||◌, not, List, [], ◌∷◌, get_or, leb, ltb, eqb}
+use Rattle.std.specs.Prelude.{ℕ, ◌+◌, ◌/◌, ◌%◌, ◌<◌, ◌≡◌, Bool, false, ◌||◌, not, [], ◌∷◌, get_or, leb, ltb, eqb}
 use Rattle.word.specs.Word.{pick, bit_of}
 use Rattle.opcodes.specs.declared.Cell.{Cell}
 use Rattle.opcodes.specs.Kind.{TFR/EXG, LOOP, group_of, SHORT_BRANCHES, LONG_BRANCHES}

@@ -1,5 +1,5 @@
 -- The rules of the whole table, one record for each cell, and the law that says that every cell meets them.
-use Rattle.std.specs.Prelude.{ℕ, ◌+◌, ◌<◌, ◌≤◌, ◌≡◌, Bool, true, false, ◌&&◌, ◌||◌, List, [], ◌∷◌, map, leb, ltb, eqb, length, replicate}
+use Rattle.std.specs.Prelude.{ℕ, ◌<◌, ◌≤◌, ◌≡◌, Bool, true, false, ◌&&◌, ◌||◌, List, [], ◌∷◌, map, leb, eqb, length, replicate}
 use Rattle.word.specs.Word.{pick}
 use Rattle.opcodes.specs.declared.Cell.{Cell}
 use Rattle.opcodes.specs.Kind.{RTI, TRAP, PAGE2, STOP, group_of, STOPS, SHORT_BRANCHES, LONG_BRANCHES, IN_A, IN_B, REGISTERS, PRODUCTS, STACK, CONTROL, MOVES}

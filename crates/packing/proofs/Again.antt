@@ -12,7 +12,7 @@ use Rattle.word.proofs.Laws.{high_word_lem, low_word_lem, word_halves, word_belo
 use Rattle.state.specs.Ccr.{weight_of}
 use Rattle.state.proofs.Laws.{byte_again, flags_again}
 use Rattle.packing.specs.Bytes.{byte_in, word_then, long_then, state_of, meant_bytes, bytes_of}
-use Rattle.packing.specs.Again.{StateAgain, state_bytes, IsRecord, BytesAgain}
+use Rattle.packing.specs.Again.{StateAgain, BytesAgain}
 
 -- a number of 32 bits, by its four bytes
 long_again : (n : ℕ) → long_of (word_of (high_of (high_word n)) (low_of (high_word n))) (word_of (high_of (low_word n)) (low_of (low_word n))) ≡ n

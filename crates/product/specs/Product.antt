@@ -1,5 +1,5 @@
 -- The multiplications, from their glossary pages in source document 002. A result of 32 bits is Y : D, or four bytes of memory.
-use Rattle.std.specs.Prelude.{ℕ, ◌+◌, ◌-◌, ◌*◌, ◌%◌, ◌<◌, ◌≡◌, Bool, true, eqb}
+use Rattle.std.specs.Prelude.{ℕ, ◌+◌, ◌-◌, ◌*◌, ◌%◌, ◌<◌, ◌≡◌, true, eqb}
 use Rattle.word.specs.Word.{bit_of, pick, extend16}
 use Rattle.state.specs.declared.Flags.{Flags}
 use Rattle.state.specs.Ccr.{set_n, set_z, set_c}

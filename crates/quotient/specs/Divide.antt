@@ -1,7 +1,7 @@
 -- The divisions, from their glossary pages in source document 002. The quotient goes to X (IDIV, IDIVS, FDIV) or to Y (EDIV, EDIVS),
 -- the remainder to D. What a page calls undefined or indeterminate, or gives no result for, stays as it was (docs/MACHINE.md,
 -- "Codes and undefined results"): then the quotient is the register that it would have gone to, and the remainder is D.
-use Rattle.std.specs.Prelude.{ℕ, zero, suc, ◌+◌, ◌-◌, ◌*◌, ◌/◌, ◌%◌, ◌^◌, ◌≡◌, Bool, true, false, ◌&&◌, ◌||◌, not, leb, eqb}
+use Rattle.std.specs.Prelude.{ℕ, zero, suc, ◌-◌, ◌*◌, ◌/◌, ◌%◌, ◌^◌, ◌≡◌, Bool, true, false, ◌&&◌, ◌||◌, not, leb, eqb}
 use Rattle.word.specs.Word.{bit_of, pick, long_of}
 use Rattle.state.specs.declared.Flags.{Flags}
 use Rattle.state.specs.Ccr.{set_z, set_v, set_c}

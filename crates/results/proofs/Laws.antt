@@ -1,6 +1,6 @@
 -- What a bit, a carry and a borrow of the manual's formulas are as comparisons of numbers: each law over the number k of the bit.
 -- Assumes nothing.
-use Prim.Native.Nat.{ℕ, zero, suc, ◌+◌, ◌-◌, ◌*◌, ◌/◌, ◌%◌, ◌^◌, ◌<◌, ◌≤◌}
+use Prim.Native.Nat.{ℕ, zero, suc, ◌+◌, ◌-◌, ◌/◌, ◌%◌, ◌^◌, ◌<◌, ◌≤◌}
 use native.Mathlib.Nat.{div-eq_of_lt, div-eq_of_lt-le, mod-lt, mod-eq_of_lt, mod-eq-sub-mod, mod-add-mod, add-mod}
 use native.Mathlib.Omega.{arith}
 use native.Mathlib.Decide.{dec_le}

@@ -1,7 +1,7 @@
 -- A result with the codes that it gives, and the Boolean formulas of the glossary of source document 002 (section 6.6). The scan has lost
 -- the numbers of most of the glossary's pages; the manual's index gives them. k is the number of the top bit, 7 or 15, so that one
 -- definition serves both widths. The letters are the manual's: X the register, M the operand, R the result.
-use Rattle.std.specs.Prelude.{ℕ, Bool, true, false, ◌&&◌, ◌||◌, not, eqb}
+use Rattle.std.specs.Prelude.{ℕ, Bool, false, ◌&&◌, ◌||◌, not, eqb}
 use Rattle.word.specs.Word.{bit_of}
 use Rattle.state.specs.declared.Flags.{Flags}
 use Rattle.state.specs.Ccr.{set_n, set_z, set_v, set_c}

@@ -5,12 +5,12 @@ use native.Mathlib.Numerals.{add-one}
 use mathlib.Core.Path.{◌≡◌, refl, sym, ◌∙◌, ap}
 use mathlib.Core.Bool.{Bool, true, false, ◌&&◌, ◌||◌, true≢false}
 use mathlib.Core.List.{List, [], ◌∷◌}
-use lib.Dec.{T, leb, ltb, eqb}
+use lib.Dec.{leb, ltb, eqb}
 use lib.ListN.{length, get_or, drop, drop_of_length-le, get_or-eq_default}
 use lib.Seq.{drop-cons}
 use borrow.Author.Tests.{lt-ltb, le-ltb, ltb-true, leb-true, leb-false, le-leb, lt-leb, eqb-true}
-use Rattle.word.specs.Word.{pick, bit_of}
-use Rattle.word.proofs.Table.{every_below, at_number, same, same_is}
+use Rattle.word.specs.Word.{pick}
+use Rattle.word.proofs.Table.{at_number, same, same_is}
 use Rattle.schedule.specs.declared.Watch.{Watch}
 use Rattle.schedule.specs.Schedule.{rising_after, rising, accepted, withdrawn, WithdrawnFrom64, any_withdrawn, in_force, passed, line_before, coming_at, watch_at, Watched}
 

@@ -1,12 +1,11 @@
 -- What the pages of LSR and LSRD print of N and V is what the shift gives. Assumes nothing.
-use Prim.Native.Nat.{ℕ, suc, ◌/◌, ◌^◌, ◌<◌}
+use Prim.Native.Nat.{◌/◌, ◌^◌, ◌<◌}
 use native.Mathlib.Nat.{add-zero, div-eq_of_lt}
 use native.Mathlib.Omega.{arith}
 use mathlib.Core.Path.{◌≡◌, refl}
 use mathlib.Core.Bool.{Bool, true, false}
-use Rattle.word.specs.Word.{bit_of}
 use Rattle.results.specs.Results.{exclusive_or}
-use Rattle.shift.specs.Shift.{right_of, ClearsN, OverflowIsC}
+use Rattle.shift.specs.Shift.{ClearsN, OverflowIsC}
 
 pub clears_n : ClearsN
 clears_n k m l =

@@ -9,7 +9,7 @@ use lib.ListN.{get_or}
 use Rattle.word.specs.Word.{bit_of}
 use Rattle.word.proofs.Table.{at_number, at_bits, same, same_is}
 use Rattle.state.specs.declared.Flags.{Flags}
-use Rattle.state.specs.Ccr.{weight_of, ccr_of, flags_of, take_ccr, ByteAgain, FlagsAgain, NeverSetsX}
+use Rattle.state.specs.Ccr.{weight_of, ccr_of, flags_of, ByteAgain, FlagsAgain, NeverSetsX}
 
 pub byte_again : ByteAgain
 byte_again b h = eqb→eq _ _ (at_number (λ n. eqb (ccr_of (flags_of n)) n) 256 tt b h)

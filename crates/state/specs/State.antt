@@ -1,6 +1,6 @@
 -- The programming model (source document 002, section 2.1, p. 2-1): A, B, X, Y, SP, PC and the condition codes; and what
 -- docs/MACHINE.md adds, the waiting flag and the clock. The waiting flag stands in a record of its own, which later parts of a machine join.
-use Rattle.std.specs.Prelude.{ℕ, Bool, true, false}
+use Rattle.std.specs.Prelude.{ℕ, Bool, false}
 use Rattle.word.specs.Word.{high_of, low_of, word_of}
 use Rattle.state.specs.declared.Flags.{Flags}
 use Rattle.state.specs.declared.Standing.{Standing}

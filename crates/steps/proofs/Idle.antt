@@ -21,8 +21,8 @@ use Rattle.requests.specs.Requests.{allowed_line}
 use Rattle.refusals.specs.Given.{Given, line_in}
 use Rattle.turn.specs.declared.Turn.{Turn}
 use Rattle.turn.specs.Turn.{turn_is, turn_of}
-use Rattle.steps.specs.End.{End, after}
-use Rattle.steps.specs.Steps.{turn_at, goes_on}
+use Rattle.steps.specs.End.{after}
+use Rattle.steps.specs.Steps.{goes_on}
 use Rattle.steps.specs.Idle.{idle_cycles, IdlesAtOnce}
 use Rattle.steps.proofs.Loop.{run_steps, after_twice, after_none, Going, moved}
 

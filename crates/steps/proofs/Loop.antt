@@ -13,7 +13,7 @@ use Rattle.schedule.proofs.Laws.{line_of_place}
 use Rattle.memory.specs.Memory.{committed, bytes_stored}
 use Rattle.memory.proofs.Laws.{store_keeps}
 use Rattle.machine.specs.declared.Reply.TheVariants.{Done}
-use Rattle.machine.specs.Names.{number_of, clock_limit}
+use Rattle.machine.specs.Names.{number_of}
 use Rattle.turn.specs.declared.Turn.{Turn}
 use Rattle.steps.specs.declared.Answer.{Answer}
 use Rattle.refusals.specs.Given.{Given, line_in}

@@ -1,6 +1,6 @@
 -- A wait at once: how many idle cycles the loop takes together. The definition of a run does not use it (`goes_on`): that the loop leaves
 -- what idling one by one leaves is `IdlesAtOnce`.
-use Rattle.std.specs.Prelude.{ℕ, ◌+◌, ◌-◌, ◌<◌, ◌≤◌, min, ◌≡◌, true, ◌&&◌, List, leb}
+use Rattle.std.specs.Prelude.{ℕ, ◌+◌, ◌-◌, ◌<◌, ◌≤◌, min, ◌≡◌, true, List, leb}
 use Rattle.word.specs.Word.{pick}
 use Rattle.state.specs.declared.State.{State}
 use Rattle.state.specs.State.{with_clock}

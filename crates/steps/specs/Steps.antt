@@ -1,6 +1,6 @@
 -- Steps taken one after another, each under the line byte in force at its boundary's clock (docs/MACHINE.md, "Numbered replies",
 -- "Requests").
-use Rattle.std.specs.Prelude.{ℕ, zero, suc, ◌+◌, ◌-◌, not, List, ltb, eqb}
+use Rattle.std.specs.Prelude.{ℕ, zero, suc, ◌-◌, not, List, ltb, eqb}
 use Rattle.word.specs.Word.{pick}
 use Rattle.memory.specs.Memory.{committed}
 use Rattle.state.specs.declared.State.{State}

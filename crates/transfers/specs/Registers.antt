@@ -2,7 +2,7 @@
 -- Rows 0 to 7 of source document 003's table A-5 only fill in what the scan of 002 has lost: the registers' names over the columns, and
 -- the second lines of the last row. A postbyte has the register that is named first in bits 6 to 4 and the second in bits 2 to 0; bit 7
 -- is set for EXG, and bit 3 is ignored. The codes: 0 A, 1 B, 2 CCR, 3 reserved, 4 D, 5 X, 6 Y, 7 SP.
-use Rattle.std.specs.Prelude.{ℕ, ◌+◌, ◌/◌, ◌%◌, ◌<◌, ◌≡◌, true, List, [], ◌∷◌, leb, eqb, get_or}
+use Rattle.std.specs.Prelude.{ℕ, ◌+◌, ◌/◌, ◌%◌, ◌<◌, ◌≡◌, true, [], ◌∷◌, leb, eqb, get_or}
 use Rattle.word.specs.Word.{pick, low_of, word_of, bit_of}
 use Rattle.state.specs.declared.Flags.{Flags}
 use Rattle.state.specs.declared.State.{State}

@@ -1,7 +1,7 @@
 -- Rules that one computed test proves: of every entry of a table, of every number below a bound, of every truth value.
 -- A test is a function to Bool; antt computes it once, over everything, and the law gives the rule at each place.
 -- Assumes nothing.
-use Rattle.std.proofs.Common.{◌≡◌, ℕ, zero, suc, ◌+◌, ◌<◌, ◌≤◌, Bool, true, false, not, ◌&&◌, T, List, [], ◌∷◌, length, get_or, sym, refl, ◌∙◌, subst, le_of_suc-le-suc, not-suc-le-zero, add-zero, add-suc, suc-add, zero-add, arith}
+use Rattle.std.proofs.Common.{◌≡◌, ℕ, zero, suc, ◌+◌, ◌<◌, Bool, true, false, not, ◌&&◌, T, List, [], ◌∷◌, length, get_or, sym, refl, ◌∙◌, subst, le_of_suc-le-suc, not-suc-le-zero, add-zero, add-suc, suc-add, zero-add, arith}
 use native.Mathlib.Decide.{ℕ_discrete}
 
 pub and_left : (a b : Bool) → T (a && b) → T a

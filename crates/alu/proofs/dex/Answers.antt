@@ -1,4 +1,3 @@
-use Rattle.std.proofs.Common.{rules}
 use Rattle.alu.proofs.dex.Goals as goal
 
 pub returns : goal.returns

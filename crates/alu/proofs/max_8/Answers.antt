@@ -1,4 +1,4 @@
-use Rattle.std.proofs.Common.{le_of_lt, rules}
+use Rattle.std.proofs.Common.{le_of_lt}
 use native.Mathlib.Nat.{max-eq_left, max-eq_right}
 use Rattle.alu.proofs.max_8.Goals as goal
 

@@ -1,4 +1,4 @@
-use Rattle.std.proofs.Common.{le_of_lt, rules}
+use Rattle.std.proofs.Common.{le_of_lt}
 use native.Mathlib.Nat.{min-eq_left, min-eq_right}
 use Rattle.alu.proofs.min_16.Goals as goal
 

@@ -1,4 +1,4 @@
-use Rattle.std.proofs.Common.{◌-◌, ◌%◌, ◌<◌, arith, rules}
+use Rattle.std.proofs.Common.{◌-◌, ◌%◌, ◌<◌, arith}
 use Rattle.alu.proofs.Laws.{neg_overflow_lem, neg_borrow_lem}
 use Rattle.alu.proofs.neg.Goals as goal
 

@@ -1,4 +1,4 @@
-use Rattle.std.proofs.Common.{false, sym, rules}
+use Rattle.std.proofs.Common.{false, sym}
 use lib.ListN.{get_or-eq_default}
 use Rattle.codes.specs.Conditions.{conditions}
 use Rattle.codes.proofs.Laws.{past}

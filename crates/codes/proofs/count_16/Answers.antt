@@ -1,4 +1,3 @@
-use Rattle.std.proofs.Common.{rules}
 use Rattle.codes.proofs.count_16.Goals as goal
 
 pub returns : goal.returns

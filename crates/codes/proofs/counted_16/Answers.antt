@@ -1,4 +1,4 @@
-use Rattle.std.proofs.Common.{rules, le-ltb, lt-ltb}
+use Rattle.std.proofs.Common.{le-ltb, lt-ltb}
 use Rattle.codes.proofs.counted_16.Goals as goal
 
 pub returns-then-kind-lt2 : goal.returns-then-kind-lt2

@@ -19,6 +19,6 @@ overflow_cast-result-3 c = omega (arith, fraction_below c.args.b c.args.y1 c.arg
 
 pub returns : goal.returns
 returns c = (
-      sym (one_fraction c.args.b c.args.y1 c.args.y2 (search rules)),
-      fraction_below c.args.b c.args.y1 c.args.y2 (search rules),
-    )
+  sym (one_fraction c.args.b c.args.y1 c.args.y2 (search rules)),
+  fraction_below c.args.b c.args.y1 c.args.y2 (search rules),
+)

@@ -1,4 +1,3 @@
-use Rattle.std.proofs.Common.{rules}
 use Rattle.decimal.proofs.etbl.Goals as goal
 
 pub returns : goal.returns

@@ -1,4 +1,3 @@
-use borrow.Author.Rules.{rules}
 use Rattle.decode.proofs.decoded_is.Goals as goal
 
 pub returns : goal.returns

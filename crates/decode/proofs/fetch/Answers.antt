@@ -1,5 +1,4 @@
 use mathlib.Core.Path.{ap}
-use borrow.Author.Rules.{rules}
 use Rattle.opcodes.specs.Postbyte.{cost_of}
 use Rattle.opcodes.proofs.Postbytes.{one_of_five}
 use Rattle.decode.specs.Decode.{fetched_of}

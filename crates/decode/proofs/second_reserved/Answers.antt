@@ -1,4 +1,3 @@
-use borrow.Author.Rules.{rules}
 use borrow.Author.Tests.{eq-eqb, ne_eqb}
 use Rattle.opcodes.specs.Postbyte.{cost_of}
 use Rattle.opcodes.proofs.Postbytes.{one_of_five}

@@ -1,4 +1,3 @@
-use borrow.Author.Rules.{rules}
 use Rattle.effect.proofs.act.Goals as goal
 
 pub returns : goal.returns

@@ -1,4 +1,3 @@
-use borrow.Author.Rules.{rules}
 use borrow.Author.Tests.{ne_eqb}
 use Rattle.execute16.specs.Registers.{first_registers}
 use Rattle.execute16.proofs.first_registers.Goals as goal

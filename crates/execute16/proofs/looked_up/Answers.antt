@@ -1,4 +1,3 @@
-use borrow.Author.Rules.{rules}
 use borrow.Author.Tests.{eq-eqb, ne_eqb}
 use Rattle.execute16.specs.Lookups.{looked_up}
 use Rattle.execute16.proofs.looked_up.Goals as goal

@@ -1,4 +1,3 @@
-use borrow.Author.Rules.{rules}
 use borrow.Author.Tests.{lt-ltb, le-ltb}
 use Rattle.execute16.specs.Registers.{registered}
 use Rattle.execute16.proofs.registers.Goals as goal

@@ -1,4 +1,3 @@
-use borrow.Author.Rules.{rules}
 use Rattle.execute16.proofs.sp_result.Goals as goal
 
 pub returns : goal.returns

@@ -1,4 +1,3 @@
-use borrow.Author.Rules.{rules}
 use Rattle.execute16.proofs.with_word.Goals as goal
 
 pub returns : goal.returns

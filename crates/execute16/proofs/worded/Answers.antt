@@ -1,4 +1,3 @@
-use borrow.Author.Rules.{rules}
 use borrow.Author.Tests.{ne_eqb}
 use Rattle.execute16.specs.Words.{worded}
 use Rattle.execute16.proofs.worded.Goals as goal

@@ -1,4 +1,3 @@
-use borrow.Author.Rules.{rules}
 use Rattle.execute8.proofs.a_result.Goals as goal
 
 pub returns : goal.returns

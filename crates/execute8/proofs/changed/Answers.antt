@@ -1,6 +1,5 @@
 use Rattle.execute8.specs.Bytes.{changed}
 use borrow.Author.Tests.{ne_eqb}
-use borrow.Author.Rules.{rules}
 use Rattle.execute8.proofs.changed.Goals as goal
 
 pub returns-in-0 : goal.returns-in-0

@@ -1,4 +1,3 @@
-use borrow.Author.Rules.{rules}
 use borrow.Author.Tests.{eq-eqb, ne_eqb}
 use Rattle.opcodes.specs.Kind.{TST}
 use Rattle.execute8.specs.Bytes.{memory_changed}

@@ -4,7 +4,7 @@ use Rattle.execute8.proofs.with_accumulator.Goals.{then-second, else-second}
 pub returns-then-second-2 : goal.returns-then-second-2
 returns-then-second-2 c =
     elim c.if-second.branch [
-      then-second w ↦ rw (
+      | then-second w ↦ rw (
         c.if-second-2.true,
         c.quiet.ensures,
         c.b_result.ensures,
@@ -18,7 +18,7 @@ returns-then-second-2 c =
 pub returns : goal.returns
 returns c =
     elim c.if-second.branch [
-      then-second w ↦ cc
+      | then-second w ↦ cc
       | else-second w ↦ rw (
         c.if-second-2.false,
         c.quiet-2.ensures,

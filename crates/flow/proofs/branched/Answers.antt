@@ -1,4 +1,3 @@
-use borrow.Author.Rules.{rules}
 use Rattle.flow.proofs.branched.Goals as goal
 
 pub returns-then-taken : goal.returns-then-taken

@@ -1,7 +1,6 @@
 use borrow.Author.Tests.{ne_eqb}
 use Rattle.flow.specs.Branches.{loop_effect}
 use Rattle.flow.specs.Control.{control_effect}
-use borrow.Author.Rules.{rules}
 use Rattle.flow.proofs.control.Goals as goal
 
 pub returns-in-208 : goal.returns-in-208

@@ -1,4 +1,3 @@
-use borrow.Author.Rules.{rules}
 use Rattle.flow.proofs.long_branch.Goals as goal
 
 pub returns : goal.returns

@@ -1,5 +1,4 @@
 use Rattle.flow.specs.Branches.{loop_done}
-use borrow.Author.Rules.{rules}
 use Rattle.flow.proofs.loop_primitive.Goals as goal
 
 pub returns : goal.returns

@@ -1,6 +1,5 @@
 use borrow.Author.Tests.{ne_eqb}
 use Rattle.flow.specs.Branches.{looped}
-use borrow.Author.Rules.{rules}
 use Rattle.flow.proofs.looped.Goals as goal
 
 pub returns-in-0 : goal.returns-in-0

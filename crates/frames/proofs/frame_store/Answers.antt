@@ -1,4 +1,3 @@
-use borrow.Author.Rules.{rules}
 use Rattle.frames.proofs.frame_store.Goals as goal
 
 pub returns : goal.returns

@@ -1,5 +1,4 @@
 use Rattle.frames.specs.Frames.{interrupt_effect}
-use borrow.Author.Rules.{rules}
 use Rattle.frames.proofs.interrupt.Goals as goal
 
 pub returns : goal.returns

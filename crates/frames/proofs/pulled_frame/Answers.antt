@@ -1,5 +1,4 @@
 use Rattle.frames.specs.Frames.{pulled_frame}
-use borrow.Author.Rules.{rules}
 use Rattle.frames.proofs.pulled_frame.Goals as goal
 
 pub returns : goal.returns

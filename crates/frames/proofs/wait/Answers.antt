@@ -1,5 +1,4 @@
 use Rattle.frames.specs.Frames.{wait_effect}
-use borrow.Author.Rules.{rules}
 use Rattle.frames.proofs.wait.Goals as goal
 
 pub returns : goal.returns

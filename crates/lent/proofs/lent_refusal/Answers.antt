@@ -1,4 +1,3 @@
-use borrow.Author.Rules.{rules}
 use borrow.Author.Tests.{eq-eqb, ne_eqb}
 use Rattle.lent.proofs.Laws.{first_refuses, first_passes}
 use Rattle.lent.proofs.lent_refusal.Goals as goal

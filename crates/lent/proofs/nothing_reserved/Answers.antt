@@ -1,9 +1,6 @@
-use Prim.Native.Nat.{◌-◌}
 use native.Mathlib.Omega.{arith}
 use mathlib.Core.Path.{refl}
-use borrow.Author.Rules.{rules}
-use Rattle.packing.specs.Bytes.{record_size}
-use Rattle.lent.proofs.Laws.{Clearing, next_clear, not_clear, end_clear}
+use Rattle.lent.proofs.Laws.{next_clear, not_clear, end_clear}
 use Rattle.lent.proofs.nothing_reserved.Goals as goal
 
 pub loop-i-init : goal.loop-i-init

@@ -1,9 +1,6 @@
 use Prim.Native.Nat.{◌-◌}
-use native.Mathlib.Omega.{arith}
-use mathlib.Core.Path.{refl}
-use borrow.Author.Rules.{rules}
 use Rattle.packing.specs.Bytes.{record_size}
-use Rattle.lent.proofs.Laws.{Clearing, next_clear, not_clear, end_clear}
+use Rattle.lent.proofs.Laws.{Clearing}
 use Rattle.lent.proofs.nothing_reserved.Given as goal
 
 abbrev pub invariant-loop-i : goal.invariant-loop-i

@@ -1,4 +1,3 @@
-use borrow.Author.Rules.{rules}
 use Rattle.logic.proofs.clr.Goals as goal
 
 pub returns : goal.returns

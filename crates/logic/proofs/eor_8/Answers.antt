@@ -1,4 +1,3 @@
-use borrow.Author.Rules.{rules}
 use Rattle.logic.proofs.eor_8.Goals as goal
 
 pub returns : goal.returns

@@ -1,4 +1,3 @@
-use borrow.Author.Rules.{rules}
 use Rattle.memory.proofs.next.Goals as goal
 
 pub returns : goal.returns

@@ -1,10 +1,9 @@
-use borrow.Author.Rules.{rules}
 use Rattle.memory.proofs.read_word.Goals as goal
 
 pub returns : goal.returns
 returns c = rw (
-      c.word.ensures,
-      c.read_byte-low.ensures,
-      c.next.ensures,
-      c.read_byte-high.ensures,
-    )
+  c.word.ensures,
+  c.read_byte-low.ensures,
+  c.next.ensures,
+  c.read_byte-high.ensures,
+)

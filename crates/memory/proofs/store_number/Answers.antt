@@ -1,7 +1,7 @@
 use borrow.Author.Rules.{rules}
 use native.Mathlib.Omega.{arith}
 use mathlib.Core.Path.{refl}
-use Rattle.memory.proofs.Laws.{Storing, stored_one, stored_all}
+use Rattle.memory.proofs.Laws.{stored_one, stored_all}
 use Rattle.memory.proofs.store_number.Goals as goal
 
 pub loop-left-init : goal.loop-left-init

@@ -1,7 +1,4 @@
-use borrow.Author.Rules.{rules}
-use native.Mathlib.Omega.{arith}
-use mathlib.Core.Path.{refl}
-use Rattle.memory.proofs.Laws.{Storing, stored_one, stored_all}
+use Rattle.memory.proofs.Laws.{Storing}
 use Rattle.memory.proofs.store_number.Given as goal
 
 abbrev pub invariant-loop-left : goal.invariant-loop-left

@@ -1,6 +1,5 @@
 use mathlib.Core.Path.{sym, ◌∙◌}
 use mathlib.Core.Bool.{and-eq-true_iff}
-use borrow.Author.Rules.{rules}
 use Rattle.machine.specs.Names.{record_limit}
 use Rattle.schedule.proofs.Laws.{accepted_same, accepted_few}
 use Rattle.migrate.proofs.answer_to.Goals as goal

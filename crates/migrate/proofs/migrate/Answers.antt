@@ -1,4 +1,3 @@
-use borrow.Author.Rules.{rules}
 use Rattle.migrate.proofs.Whole.{answers}
 use Rattle.migrate.proofs.migrate.Goals as goal
 

@@ -1,6 +1,5 @@
 use borrow.Author.Tests.{ne_eqb}
 use Rattle.moves.specs.Addresses.{addressed}
-use borrow.Author.Rules.{rules}
 use Rattle.moves.proofs.addresses.Goals as goal
 
 pub returns-in-224 : goal.returns-in-224

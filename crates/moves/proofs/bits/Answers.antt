@@ -1,6 +1,5 @@
 use borrow.Author.Tests.{eq-eqb, ne_eqb}
 use Rattle.moves.specs.Bits.{bitted}
-use borrow.Author.Rules.{rules}
 use Rattle.moves.proofs.bits.Goals as goal
 
 pub returns-then-kind-eq-BSET : goal.returns-then-kind-eq-BSET

@@ -1,5 +1,4 @@
 use Rattle.moves.specs.Bits.{bits_changed}
-use borrow.Author.Rules.{rules}
 use Rattle.moves.proofs.bits_changed.Goals as goal
 
 pub returns : goal.returns

@@ -1,4 +1,3 @@
-use borrow.Author.Rules.{rules}
 use Rattle.moves.proofs.bits_tested.Goals as goal
 
 pub returns-then-set : goal.returns-then-set

@@ -1,5 +1,4 @@
 use Rattle.moves.specs.Moves.{byte_move_effect}
-use borrow.Author.Rules.{rules}
 use Rattle.moves.proofs.move_byte.Goals as goal
 
 pub returns : goal.returns

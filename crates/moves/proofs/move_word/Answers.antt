@@ -1,5 +1,4 @@
 use Rattle.moves.specs.Moves.{word_move_effect}
-use borrow.Author.Rules.{rules}
 use Rattle.moves.proofs.move_word.Goals as goal
 
 pub returns : goal.returns

@@ -1,6 +1,5 @@
 use borrow.Author.Tests.{eq-eqb, ne_eqb}
 use Rattle.moves.specs.Moves.{move_effect}
-use borrow.Author.Rules.{rules}
 use Rattle.moves.proofs.moves.Goals as goal
 
 pub returns-then-d-eq-MOVB : goal.returns-then-d-eq-MOVB

@@ -1,4 +1,3 @@
-use borrow.Author.Rules.{rules}
 use Rattle.moves.proofs.with_bits.Goals as goal
 
 pub returns-then-set : goal.returns-then-set

@@ -1,7 +1,4 @@
-use borrow.Author.Rules.{rules}
-use mathlib.Core.Path.{◌∙◌, ap}
-use lib.ListN.{get_or}
-use Rattle.opcodes.proofs.Cells.{cell_number_below, map_unpacked, unpacked}
+use Rattle.opcodes.proofs.Cells.{cell_number_below, map_unpacked}
 use Rattle.opcodes.proofs.cell_at.Goals as goal
 
 pub bounds-map-number : goal.bounds-map-number

@@ -1,4 +1,3 @@
-use borrow.Author.Rules.{rules}
 use Rattle.opcodes.proofs.cell_number.Goals as goal
 
 pub returns-then-second : goal.returns-then-second

@@ -1,4 +1,3 @@
-use borrow.Author.Rules.{rules}
 use borrow.Author.Tests.{lt-ltb, le-ltb}
 use Rattle.opcodes.proofs.Postbytes.{as_tabled}
 use Rattle.opcodes.proofs.form_of.Goals as goal

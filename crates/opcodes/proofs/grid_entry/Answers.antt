@@ -1,4 +1,3 @@
-use borrow.Author.Rules.{rules}
 use Rattle.opcodes.specs.Grid.{grid, grid_at}
 use mathlib.Core.Path.{refl, sym}
 use Rattle.opcodes.proofs.Cells.{past_rows, past_columns}

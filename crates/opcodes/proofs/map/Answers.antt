@@ -1,4 +1,3 @@
-use borrow.Author.Rules.{rules}
 use mathlib.Core.Path.{refl}
 use Rattle.opcodes.specs.Grid.{families, family_of}
 use Rattle.opcodes.specs.Map.{page_one, page_two, cell_of, opcode_map}

@@ -1,4 +1,3 @@
-use borrow.Author.Rules.{rules}
 use borrow.Author.Tests.{eq-eqb, ne_eqb, le-leb, lt-leb}
 use Rattle.opcodes.specs.Postbyte.{reserved_of, cost_of}
 use Rattle.opcodes.proofs.reserved.Goals as goal

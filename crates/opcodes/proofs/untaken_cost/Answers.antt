@@ -1,4 +1,3 @@
-use borrow.Author.Rules.{rules}
 use borrow.Author.Tests.{eq-eqb, ne_eqb}
 use Rattle.opcodes.specs.Postbyte.{untaken_of}
 use Rattle.opcodes.proofs.untaken_cost.Goals as goal

@@ -3,7 +3,6 @@ use native.Mathlib.Nat.{add-zero}
 use mathlib.Core.Path.{◌≡◌}
 use mathlib.Core.Bool.{Bool, true, false, ◌&&◌}
 use lib.Dec.{eqb}
-use borrow.Author.Rules.{rules}
 use borrow.Author.Tests.{ne_eqb}
 use Rattle.word.specs.Word.{pick}
 use Rattle.opcodes.specs.Postbyte.{cost_of}

@@ -1,4 +1,3 @@
-use borrow.Author.Rules.{rules}
 use Rattle.operand.proofs.plain_place.Goals as goal
 
 pub returns-then-steps : goal.returns-then-steps

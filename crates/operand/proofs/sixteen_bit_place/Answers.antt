@@ -1,4 +1,3 @@
-use borrow.Author.Rules.{rules}
 use Rattle.operand.proofs.sixteen_bit_place.Goals as goal
 
 pub returns : goal.returns

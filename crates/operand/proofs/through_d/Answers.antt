@@ -1,4 +1,3 @@
-use borrow.Author.Rules.{rules}
 use Rattle.operand.proofs.through_d.Goals as goal
 
 pub returns : goal.returns

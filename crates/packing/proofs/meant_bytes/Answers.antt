@@ -1,4 +1,3 @@
-use borrow.Author.Rules.{rules}
 use Rattle.packing.specs.Bytes.{meant_bytes}
 use Rattle.packing.proofs.meant_bytes.Goals as goal
 

@@ -1,10 +1,8 @@
-use Prim.Native.Nat.{◌-◌}
 use native.Mathlib.Omega.{arith}
 use mathlib.Core.Path.{refl, ◌∙◌}
 use mathlib.Core.List.{◌++◌}
-use borrow.Author.Rules.{rules}
-use Rattle.packing.specs.Bytes.{record_size, reserved_bytes, bytes_of}
-use Rattle.packing.proofs.Laws.{meant_long, bytes_long, zeros_follow, Copying, copied_one, copied_all}
+use Rattle.packing.specs.Bytes.{reserved_bytes, bytes_of}
+use Rattle.packing.proofs.Laws.{meant_long, bytes_long, zeros_follow, copied_one, copied_all}
 use Rattle.packing.proofs.put_record.Goals as goal
 
 pub loop-i-init : goal.loop-i-init

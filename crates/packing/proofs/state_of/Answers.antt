@@ -1,4 +1,3 @@
-use borrow.Author.Rules.{rules}
 use native.Mathlib.Omega.{arith}
 use Rattle.packing.specs.Bytes.{state_of}
 use Rattle.packing.proofs.state_of.Goals as goal

@@ -1,11 +1,8 @@
 use Prim.Native.Nat.{◌-◌, ◌/◌, ◌≤◌}
-use native.Mathlib.Omega.{arith}
 use mathlib.Core.Path.{◌≡◌}
-use borrow.Author.Rules.{rules}
 use lib.ListN.{length}
 use Rattle.table.specs.Records.{no_records, gathered}
 use Rattle.packing.specs.Bytes.{packed_size, records_from, records_of}
-use Rattle.packing.proofs.Laws.{from_start, one_more_lem, no_more}
 use Rattle.packing.proofs.unpacked.Given as goal
 
 abbrev pub invariant-loop-i : goal.invariant-loop-i

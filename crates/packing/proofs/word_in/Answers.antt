@@ -1,4 +1,3 @@
-use borrow.Author.Rules.{rules}
 use Rattle.packing.proofs.word_in.Goals as goal
 
 pub returns : goal.returns

@@ -2,7 +2,6 @@ use Prim.Native.Nat.{◌+◌, ◌%◌}
 use native.Mathlib.Omega.{arith}
 use Rattle.results.proofs.Laws.{carry_from}
 use Rattle.product.specs.Product.{signed_product}
-use borrow.Author.Rules.{rules}
 use Rattle.product.proofs.emacs.Goals as goal
 
 pub returns : goal.returns

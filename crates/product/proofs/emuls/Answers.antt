@@ -1,4 +1,3 @@
-use borrow.Author.Rules.{rules}
 use Rattle.product.proofs.emuls.Goals as goal
 
 pub returns : goal.returns

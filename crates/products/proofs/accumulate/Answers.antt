@@ -1,4 +1,3 @@
-use borrow.Author.Rules.{rules}
 use Rattle.products.specs.Products.{accumulate_effect}
 use Rattle.products.proofs.accumulate.Goals as goal
 

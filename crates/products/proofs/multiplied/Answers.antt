@@ -1,4 +1,3 @@
-use borrow.Author.Rules.{rules}
 use borrow.Author.Tests.{ne_eqb}
 use Rattle.products.specs.Products.{multiplied}
 use Rattle.products.proofs.multiplied.Goals as goal

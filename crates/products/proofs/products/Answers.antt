@@ -1,4 +1,3 @@
-use borrow.Author.Rules.{rules}
 use borrow.Author.Tests.{eq-eqb, ne_eqb}
 use Rattle.products.specs.Products.{product_effect}
 use Rattle.products.proofs.products.Goals as goal

@@ -1,4 +1,3 @@
-use borrow.Author.Rules.{rules}
 use Rattle.products.proofs.read_long.Goals as goal
 
 pub returns : goal.returns

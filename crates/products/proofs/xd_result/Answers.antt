@@ -1,4 +1,3 @@
-use borrow.Author.Rules.{rules}
 use Rattle.products.proofs.xd_result.Goals as goal
 
 pub returns : goal.returns

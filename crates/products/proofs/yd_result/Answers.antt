@@ -1,4 +1,3 @@
-use borrow.Author.Rules.{rules}
 use Rattle.products.proofs.yd_result.Goals as goal
 
 pub returns : goal.returns

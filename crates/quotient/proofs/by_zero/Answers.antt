@@ -1,4 +1,3 @@
-use borrow.Author.Rules.{rules}
 use Rattle.quotient.proofs.by_zero.Goals as goal
 
 pub returns : goal.returns

@@ -1,7 +1,6 @@
 use native.Mathlib.Omega.{arith}
 use borrow.Author.Tests.{le-leb, lt-leb}
 use Rattle.quotient.proofs.Laws.{fraction_fits, remainder_fits}
-use borrow.Author.Rules.{rules}
 use Rattle.quotient.proofs.fdiv.Goals as goal
 
 pub returns-then-x-d : goal.returns-then-x-d

@@ -1,4 +1,3 @@
-use borrow.Author.Rules.{rules}
 use Rattle.quotient.proofs.idivs.Goals as goal
 
 pub returns : goal.returns

@@ -1,4 +1,3 @@
-use borrow.Author.Rules.{rules}
 use Rattle.quotient.proofs.signed.Goals as goal
 
 pub returns-then-negative : goal.returns-then-negative

@@ -1,4 +1,3 @@
-use borrow.Author.Rules.{rules}
 use Rattle.quotient.proofs.too_large.Goals as goal
 
 pub returns : goal.returns

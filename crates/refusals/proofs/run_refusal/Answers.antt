@@ -1,4 +1,3 @@
-use borrow.Author.Rules.{rules}
 use Rattle.refusals.proofs.run_refusal.Goals as goal
 
 pub returns : goal.returns

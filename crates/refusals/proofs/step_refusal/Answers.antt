@@ -1,4 +1,3 @@
-use borrow.Author.Rules.{rules}
 use Rattle.refusals.proofs.step_refusal.Goals as goal
 
 pub returns : goal.returns

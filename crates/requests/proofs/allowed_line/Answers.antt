@@ -7,7 +7,6 @@ use Rattle.word.specs.Word.{pick}
 use Rattle.state.specs.declared.Flags.{Flags}
 use Rattle.machine.specs.Names.{no_line}
 use Rattle.requests.specs.Requests.{lowest_line, allowed_line}
-use borrow.Author.Rules.{rules}
 use Rattle.requests.proofs.allowed_line.Goals as goal
 
 -- where no line is up none is allowed, whatever the masks

@@ -1,5 +1,4 @@
 use Rattle.requests.specs.Requests.{entry_effect}
-use borrow.Author.Rules.{rules}
 use Rattle.requests.proofs.entry.Goals as goal
 
 pub returns : goal.returns

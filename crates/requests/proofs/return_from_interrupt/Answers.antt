@@ -1,5 +1,4 @@
 use mathlib.Core.Path.{sym}
-use borrow.Author.Rules.{rules}
 use Rattle.requests.proofs.Laws.{returns_taking, returns_plainly}
 use Rattle.requests.proofs.return_from_interrupt.Goals as goal
 

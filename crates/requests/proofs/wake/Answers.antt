@@ -1,5 +1,4 @@
 use Rattle.requests.specs.Requests.{wake_effect}
-use borrow.Author.Rules.{rules}
 use Rattle.requests.proofs.wake.Goals as goal
 
 pub returns : goal.returns

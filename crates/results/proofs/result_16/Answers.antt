@@ -1,4 +1,3 @@
-use borrow.Author.Rules.{rules}
 use Rattle.results.proofs.result_16.Goals as goal
 
 pub returns : goal.returns

@@ -1,4 +1,3 @@
-use borrow.Author.Rules.{rules}
 use Rattle.routes.specs.Routes.{extended_to_indexed}
 use Rattle.routes.proofs.extended_to_indexed.Goals as goal
 

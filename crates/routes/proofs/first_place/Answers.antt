@@ -1,5 +1,4 @@
-use mathlib.Core.Path.{◌≡◌, ◌∙◌, ap}
-use borrow.Author.Rules.{rules}
+use mathlib.Core.Path.{◌∙◌, ap}
 use Rattle.operand.specs.Indexed.{plain_place}
 use Rattle.operand.proofs.Forms.{plain_by_its_form}
 use Rattle.routes.proofs.first_place.Goals as goal

@@ -1,4 +1,3 @@
-use borrow.Author.Rules.{rules}
 use Rattle.routes.proofs.immediate_to_extended.Goals as goal
 
 pub returns : goal.returns

@@ -1,4 +1,3 @@
-use borrow.Author.Rules.{rules}
 use Rattle.routes.specs.Routes.{indexed_to_extended}
 use Rattle.routes.proofs.indexed_to_extended.Goals as goal
 

@@ -1,5 +1,4 @@
 use native.Mathlib.Omega.{arith}
-use borrow.Author.Rules.{rules}
 use Rattle.routes.specs.Routes.{indexed_to_indexed}
 use Rattle.routes.proofs.indexed_to_indexed.Goals as goal
 

@@ -4,7 +4,6 @@ use native.Mathlib.Decide.{ℕ_discrete}
 use mathlib.Core.Path.{◌≡◌, sym, subst}
 use mathlib.Core.Bool.{true}
 use lib.Dec.{T}
-use borrow.Author.Rules.{rules}
 use borrow.Author.Tests.{eq-eqb, ne_eqb}
 use Rattle.opcodes.specs.Mode.{IM_EX, EX_EX, IM_ID, EX_ID, ID_EX, ID_ID}
 use Rattle.opcodes.specs.Rules.{moves_mode}

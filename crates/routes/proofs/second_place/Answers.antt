@@ -1,6 +1,3 @@
-use mathlib.Core.Path.{◌≡◌, ◌∙◌, ap}
-use borrow.Author.Rules.{rules}
-use Rattle.operand.specs.Indexed.{plain_place}
 use Rattle.operand.proofs.Forms.{plain_by_its_form}
 use Rattle.routes.proofs.second_place.Goals as goal
 

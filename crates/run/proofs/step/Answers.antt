@@ -20,13 +20,12 @@ returns-then-number-ne0 c =
     (λ none. c.if-number-ne0.true (c.number.ensures ∙ is ∙ none)))
     _ (ap number_of said.0 ∙ is) said.1.0 said.1.1
 
-
 pub go-requires : goal.go-requires
 unfolding rising rising_after
 go-requires c =
     -- past the test nothing is refused
     let none : refusal c.args.machine.state c.args.m.now c.args.line ≡ 0 =
-        sym c.step_refusal-refused.ensures ∙ sym c.number.ensures ∙ c.if-number-ne0.false in
+    sym c.step_refusal-refused.ensures ∙ sym c.number.ensures ∙ c.if-number-ne0.false in
     let f : StepFree c.args.machine.state c.args.m.now c.args.line = is_step_free _ _ _ none in
     record { map_value = c.map-map.ensures; grid_value = c.grid-grid.ensures; m_len = f.whole; cycles_len = refl; cycles_value = refl; budget_bound = omega (arith, f.near) }
 

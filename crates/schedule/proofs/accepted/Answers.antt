@@ -1,4 +1,3 @@
-use borrow.Author.Rules.{rules}
 use Rattle.schedule.proofs.accepted.Goals as goal
 
 pub returns : goal.returns

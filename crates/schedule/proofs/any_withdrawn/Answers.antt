@@ -1,8 +1,4 @@
-use Prim.Native.Nat.{◌-◌}
-use mathlib.Core.Path.{◌≡◌, refl, sym, ◌∙◌}
-use borrow.Author.Rules.{rules}
-use lib.ListN.{length, drop}
-use Rattle.schedule.specs.Schedule.{any_withdrawn}
+use mathlib.Core.Path.{refl, sym, ◌∙◌}
 use Rattle.schedule.proofs.Laws.{withdrawn_here, withdrawn_on, withdrawn_none}
 use Rattle.schedule.proofs.any_withdrawn.Goals as goal
 

@@ -1,9 +1,7 @@
 use Prim.Native.Nat.{◌-◌}
-use mathlib.Core.Path.{◌≡◌, refl, sym, ◌∙◌}
-use borrow.Author.Rules.{rules}
+use mathlib.Core.Path.{◌≡◌}
 use lib.ListN.{length, drop}
 use Rattle.schedule.specs.Schedule.{any_withdrawn}
-use Rattle.schedule.proofs.Laws.{withdrawn_here, withdrawn_on, withdrawn_none}
 use Rattle.schedule.proofs.any_withdrawn.Given as goal
 
 abbrev pub invariant-loop-i : goal.invariant-loop-i

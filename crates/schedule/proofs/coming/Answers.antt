@@ -1,4 +1,3 @@
-use borrow.Author.Rules.{rules}
 use Rattle.schedule.proofs.Laws.{coming_inside, coming_past}
 use Rattle.schedule.proofs.coming.Goals as goal
 

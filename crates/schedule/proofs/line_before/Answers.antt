@@ -1,5 +1,3 @@
-use Prim.Native.Nat.{◌-◌}
-use borrow.Author.Rules.{rules}
 use Rattle.schedule.proofs.Laws.{line_past, line_inside}
 use Rattle.schedule.proofs.line_before.Goals as goal
 

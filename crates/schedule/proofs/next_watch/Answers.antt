@@ -1,4 +1,3 @@
-use borrow.Author.Rules.{rules}
 use Rattle.schedule.proofs.Laws.{watch_still, watch_reached}
 use Rattle.schedule.proofs.next_watch.Goals as goal
 

@@ -1,9 +1,6 @@
-use Prim.Native.Nat.{◌-◌, ◌≤◌}
 use native.Mathlib.Omega.{arith}
 use native.Mathlib.Numerals.{add-one}
 use borrow.Author.Rules.{rules}
-use lib.ListN.{length}
-use Rattle.schedule.specs.Schedule.{passed}
 use Rattle.schedule.proofs.Laws.{passed_inside, passed_here, passed_on}
 use Rattle.schedule.proofs.passed.Goals as goal
 

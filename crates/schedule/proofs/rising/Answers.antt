@@ -1,9 +1,5 @@
-use Prim.Native.Nat.{◌-◌}
 use native.Mathlib.Omega.{arith}
-use mathlib.Core.Path.{◌≡◌, sym, ◌∙◌}
-use borrow.Author.Rules.{rules}
-use lib.ListN.{length, drop}
-use Rattle.schedule.specs.Schedule.{rising, rising_after}
+use mathlib.Core.Path.{sym, ◌∙◌}
 use Rattle.schedule.proofs.Laws.{rising_on, rising_not, rising_all, rising_none, rising_some}
 use Rattle.schedule.proofs.rising.Goals as goal
 

@@ -1,10 +1,7 @@
 use Prim.Native.Nat.{◌-◌}
-use native.Mathlib.Omega.{arith}
-use mathlib.Core.Path.{◌≡◌, sym, ◌∙◌}
-use borrow.Author.Rules.{rules}
+use mathlib.Core.Path.{◌≡◌}
 use lib.ListN.{length, drop}
 use Rattle.schedule.specs.Schedule.{rising, rising_after}
-use Rattle.schedule.proofs.Laws.{rising_on, rising_not, rising_all, rising_none, rising_some}
 use Rattle.schedule.proofs.rising.Given as goal
 
 abbrev pub invariant-loop-i : goal.invariant-loop-i

@@ -1,6 +1,5 @@
 use Prim.Native.Nat.{◌*◌}
 use native.Mathlib.Nat.{add-zero}
-use borrow.Author.Rules.{rules}
 use Rattle.shift.proofs.asld.Goals as goal
 
 pub returns : goal.returns

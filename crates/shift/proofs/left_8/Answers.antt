@@ -1,5 +1,4 @@
 use native.Mathlib.Omega.{arith}
-use borrow.Author.Rules.{rules}
 use Rattle.shift.proofs.left_8.Goals as goal
 
 pub returns-then-low : goal.returns-then-low

@@ -1,6 +1,5 @@
 use Prim.Native.Nat.{◌/◌}
 use native.Mathlib.Nat.{add-zero, div-one}
-use borrow.Author.Rules.{rules}
 use Rattle.shift.proofs.lsrd.Goals as goal
 
 pub returns : goal.returns

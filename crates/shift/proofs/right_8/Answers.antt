@@ -1,5 +1,4 @@
 use native.Mathlib.Omega.{arith}
-use borrow.Author.Rules.{rules}
 use Rattle.shift.proofs.right_8.Goals as goal
 
 pub returns-then-high : goal.returns-then-high

@@ -1,4 +1,3 @@
-use borrow.Author.Rules.{rules}
 use Rattle.signbench.proofs.bench.Goals as goal
 
 pub returns : goal.returns

@@ -1,5 +1,4 @@
 use native.Mathlib.Omega.{arith}
-use borrow.Author.Rules.{rules}
 use Rattle.text.proofs.Laws.{and_then, all_written}
 use Rattle.signbench.specs.Bench.{line_of}
 use Rattle.signbench.proofs.Laws.{line_fits, named}

@@ -1,4 +1,3 @@
-use borrow.Author.Rules.{rules}
 use Rattle.stack.proofs.byte_pushed.Goals as goal
 
 pub returns : goal.returns

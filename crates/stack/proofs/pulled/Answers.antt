@@ -1,4 +1,3 @@
-use borrow.Author.Rules.{rules}
 use Rattle.stack.proofs.pulled.Goals as goal
 
 pub returns : goal.returns

@@ -1,5 +1,4 @@
 use Rattle.stack.specs.Stack.{return_effect}
-use borrow.Author.Rules.{rules}
 use Rattle.stack.proofs.returned.Goals as goal
 
 pub returns : goal.returns

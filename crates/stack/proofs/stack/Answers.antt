@@ -1,6 +1,5 @@
 use Rattle.stack.specs.Stack.{stacked}
 use borrow.Author.Tests.{ne_eqb}
-use borrow.Author.Rules.{rules}
 use Rattle.stack.proofs.stack.Goals as goal
 
 pub returns-in-192 : goal.returns-in-192

@@ -1,5 +1,4 @@
 use Rattle.stack.specs.Stack.{subroutine_effect}
-use borrow.Author.Rules.{rules}
 use Rattle.stack.proofs.subroutine.Goals as goal
 
 pub returns : goal.returns

@@ -1,11 +1,9 @@
 use Prim.Native.Nat.{◌+◌, ◌-◌}
 use native.Mathlib.Omega.{arith}
-use mathlib.Core.Path.{◌≡◌, sym, ◌∙◌, ap}
-use borrow.Author.Rules.{rules}
+use mathlib.Core.Path.{sym, ◌∙◌, ap}
 use Rattle.turn.specs.Turn.{turn_of}
 use Rattle.refusals.specs.Given.{given_is}
-use Rattle.steps.specs.Steps.{turn_at}
-use Rattle.steps.proofs.Loop.{Going, begun, in_force_here, turned, ends_over, ends_stopped, ends_spent}
+use Rattle.steps.proofs.Loop.{begun, in_force_here, turned, ends_over, ends_stopped, ends_spent}
 use Rattle.steps.proofs.Idle.{Idles, idles, due_later, idled}
 use Rattle.steps.proofs.go.Goals as goal
 
@@ -30,26 +28,25 @@ idle_cycles-idle-requires c =
     let later = due_later (given_is _ _) _ _ c.next_watch-watch.ensures (omega (arith, c.requires.budget_bound, c.loop-more.invariant.until)) in
     omega (arith, later)
 
-
 pub overflow_add-s : goal.overflow_add-s
 overflow_add-s c =
     let later = due_later (given_is _ _) _ _ c.next_watch-watch.ensures (omega (arith, c.requires.budget_bound, c.loop-more.invariant.until)) in
     let idle : Idles c.loop-more.s c.next_watch-watch.result.line c.next_watch-watch.result.due
-        (c.args.start.clock + c.args.budget - c.loop-more.s.clock) c.loop-more.more c.idle_cycles-idle.result = idles _ _ _ _ _ _ (omega (arith, later)) c.idle_cycles-idle.ensures c.if-idle-gt0.true in
+    (c.args.start.clock + c.args.budget - c.loop-more.s.clock) c.loop-more.more c.idle_cycles-idle.result = idles _ _ _ _ _ _ (omega (arith, later)) c.idle_cycles-idle.ensures c.if-idle-gt0.true in
     omega (arith, idle.fits, c.requires.budget_bound, c.loop-more.invariant.until)
 
 pub overflow_sub-more : goal.overflow_sub-more
 overflow_sub-more c =
     let later = due_later (given_is _ _) _ _ c.next_watch-watch.ensures (omega (arith, c.requires.budget_bound, c.loop-more.invariant.until)) in
     let idle : Idles c.loop-more.s c.next_watch-watch.result.line c.next_watch-watch.result.due
-        (c.args.start.clock + c.args.budget - c.loop-more.s.clock) c.loop-more.more c.idle_cycles-idle.result = idles _ _ _ _ _ _ (omega (arith, later)) c.idle_cycles-idle.ensures c.if-idle-gt0.true in
+    (c.args.start.clock + c.args.budget - c.loop-more.s.clock) c.loop-more.more c.idle_cycles-idle.result = idles _ _ _ _ _ _ (omega (arith, later)) c.idle_cycles-idle.ensures c.if-idle-gt0.true in
     idle.inside
 
 pub loop-more-smaller-then-idle-gt0 : goal.loop-more-smaller-then-idle-gt0
 loop-more-smaller-then-idle-gt0 c =
     let later = due_later (given_is _ _) _ _ c.next_watch-watch.ensures (omega (arith, c.requires.budget_bound, c.loop-more.invariant.until)) in
     let idle : Idles c.loop-more.s c.next_watch-watch.result.line c.next_watch-watch.result.due
-        (c.args.start.clock + c.args.budget - c.loop-more.s.clock) c.loop-more.more c.idle_cycles-idle.result = idles _ _ _ _ _ _ (omega (arith, later)) c.idle_cycles-idle.ensures c.if-idle-gt0.true in
+    (c.args.start.clock + c.args.budget - c.loop-more.s.clock) c.loop-more.more c.idle_cycles-idle.result = idles _ _ _ _ _ _ (omega (arith, later)) c.idle_cycles-idle.ensures c.if-idle-gt0.true in
     omega (arith, idle.inside, c.if-idle-gt0.true)
 
 pub loop-more-preserved-then-idle-gt0 : goal.loop-more-preserved-then-idle-gt0
@@ -60,7 +57,6 @@ loop-more-preserved-then-idle-gt0 c =
 pub turn_at-next-requires : goal.turn_at-next-requires
 turn_at-next-requires c =
     record { map_value = c.requires.map_value; grid_value = c.requires.grid_value; m_len = c.loop-more.invariant.whole }
-
 
 pub overflow_sub-s-then-number-ne0 : goal.overflow_sub-s-then-number-ne0
 overflow_sub-s-then-number-ne0 c = c.loop-more.invariant.since

@@ -1,12 +1,5 @@
-use Prim.Native.Nat.{◌+◌, ◌-◌}
-use native.Mathlib.Omega.{arith}
-use mathlib.Core.Path.{◌≡◌, sym, ◌∙◌, ap}
-use borrow.Author.Rules.{rules}
-use Rattle.turn.specs.Turn.{turn_of}
 use Rattle.refusals.specs.Given.{given_is}
-use Rattle.steps.specs.Steps.{turn_at}
-use Rattle.steps.proofs.Loop.{Going, begun, in_force_here, turned, ends_over, ends_stopped, ends_spent}
-use Rattle.steps.proofs.Idle.{Idles, idles, due_later, idled}
+use Rattle.steps.proofs.Loop.{Going}
 use Rattle.steps.proofs.go.Given as goal
 
 abbrev pub invariant-loop-more : goal.invariant-loop-more

@@ -1,4 +1,3 @@
-use borrow.Author.Rules.{rules}
 use borrow.Author.Tests.{le-leb, lt-leb}
 use Rattle.machine.specs.Names.{no_line}
 use Rattle.steps.proofs.idle_cycles.Goals as goal

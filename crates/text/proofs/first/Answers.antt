@@ -1,7 +1,6 @@
 use native.Mathlib.Omega.{arith}
 use mathlib.Core.Path.{sym}
 use lib.Seq.{length-take-le, take_all}
-use borrow.Author.Rules.{rules}
 use Rattle.text.proofs.first.Goals as goal
 
 pub slice_bounds-result-end : goal.slice_bounds-result-end

@@ -1,6 +1,5 @@
 use Prim.Native.Nat.{ℕ}
 use mathlib.Core.Path.{◌∙◌, ap}
-use borrow.Author.Rules.{rules}
 use Rattle.state.specs.declared.State.{State}
 use Rattle.transfers.specs.Registers.{moved}
 use Rattle.transfers.proofs.exg.Goals as goal

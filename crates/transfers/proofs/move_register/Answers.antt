@@ -1,5 +1,4 @@
 use borrow.Author.Tests.{le-leb, lt-leb}
-use borrow.Author.Rules.{rules}
 use Rattle.transfers.proofs.move_register.Goals as goal
 
 pub returns-then-to-ge4 : goal.returns-then-to-ge4

@@ -1,5 +1,4 @@
 use borrow.Author.Tests.{eq-eqb, ne_eqb}
-use borrow.Author.Rules.{rules}
 use Rattle.transfers.proofs.put_byte.Goals as goal
 
 pub returns : goal.returns

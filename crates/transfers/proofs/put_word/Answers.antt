@@ -1,5 +1,4 @@
 use borrow.Author.Tests.{eq-eqb, ne_eqb}
-use borrow.Author.Rules.{rules}
 use Rattle.transfers.proofs.put_word.Goals as goal
 
 pub returns-then-r-eq6 : goal.returns-then-r-eq6

@@ -1,4 +1,3 @@
-use borrow.Author.Rules.{rules}
 use Rattle.transfers.proofs.sign_fill.Goals as goal
 
 pub returns-then-top_8 : goal.returns-then-top_8

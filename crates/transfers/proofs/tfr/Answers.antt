@@ -1,4 +1,3 @@
-use borrow.Author.Rules.{rules}
 use Rattle.transfers.proofs.tfr.Goals as goal
 
 pub returns : goal.returns

@@ -1,5 +1,4 @@
 use borrow.Author.Tests.{le-leb, lt-leb}
-use borrow.Author.Rules.{rules}
 use Rattle.transfers.proofs.transfer.Goals as goal
 
 pub returns-then-transfer_reserved : goal.returns-then-transfer_reserved

@@ -1,5 +1,4 @@
 use borrow.Author.Tests.{le-leb, lt-leb}
-use borrow.Author.Rules.{rules}
 use Rattle.transfers.proofs.word_from.Goals as goal
 
 pub returns-then-r-ge4 : goal.returns-then-r-ge4

@@ -1,5 +1,4 @@
 use mathlib.Core.Path.{sym, ◌∙◌}
-use borrow.Author.Rules.{rules}
 use borrow.Author.Tests.{ne_eqb}
 use Rattle.opcodes.specs.Postbyte.{untaken_of}
 use Rattle.decode.proofs.Laws.{stop_fetched}
@@ -27,18 +26,24 @@ operands-requires c =
     let not4 = not5.0 in
     let not3 = not4.0 in
     let not2 = not3.0 in
-    let not1 = not2.0 in record { grid_value = c.requires.grid_value; m_len = c.requires.m_len; opcode_value = c.opcode_at-opcode.ensures; group_value = c.group_of-group.ensures; group_value_2 = rw (
-              ne_eqb _ _ not1.1,
-              ne_eqb _ _ not10.1,
-              ne_eqb _ _ not8.1,
-              ne_eqb _ _ not9.1,
-              ne_eqb _ _ not2.1,
-              ne_eqb _ _ not3.1,
-              ne_eqb _ _ not4.1,
-              ne_eqb _ _ not5.1,
-              ne_eqb _ _ not6.1,
-              ne_eqb _ _ not7.1,
-            ) }
+    let not1 = not2.0 in record {
+      grid_value = c.requires.grid_value;
+      m_len = c.requires.m_len;
+      opcode_value = c.opcode_at-opcode.ensures;
+      group_value = c.group_of-group.ensures;
+      group_value_2 = rw (
+        ne_eqb _ _ not1.1,
+        ne_eqb _ _ not10.1,
+        ne_eqb _ _ not8.1,
+        ne_eqb _ _ not9.1,
+        ne_eqb _ _ not2.1,
+        ne_eqb _ _ not3.1,
+        ne_eqb _ _ not4.1,
+        ne_eqb _ _ not5.1,
+        ne_eqb _ _ not6.1,
+        ne_eqb _ _ not7.1,
+      );
+    }
 
 pub returns-in-0 : goal.returns-in-0
 unfolding instructed

@@ -1,4 +1,3 @@
-use borrow.Author.Rules.{rules}
 use Rattle.decode.proofs.Laws.{fetched_faithfully}
 use Rattle.turn.specs.Turn.{executed, instructed}
 use Rattle.turn.proofs.Laws.{control_free, plain_decoded}
@@ -15,9 +14,12 @@ returns-then-c-loop_reserved c =
 -- what was built is what would have been fetched
 pub controlled-requires : goal.controlled-requires
 controlled-requires c =
-    record { m_len = c.requires.m_len; faithful = rw (plain_decoded c.args.m.now c.args.s.pc c.requires.opcode_value (rw c.requires.kind_value) c.read_byte-postbyte.ensures c.form_of-form.ensures c.decoded_is-d.ensures)
+    record {
+      m_len = c.requires.m_len;
+      faithful = rw (plain_decoded c.args.m.now c.args.s.pc c.requires.opcode_value (rw c.requires.kind_value) c.read_byte-postbyte.ensures c.form_of-form.ensures c.decoded_is-d.ensures)
           (fetched_faithfully c.args.m.now c.args.s.pc _
-          (control_free c.args.m.now c.args.s.pc c.requires.opcode_value c.requires.kind_value c.read_byte-postbyte.ensures c.loop_reserved.ensures c.if-c-loop_reserved.false)) }
+          (control_free c.args.m.now c.args.s.pc c.requires.opcode_value c.requires.kind_value c.read_byte-postbyte.ensures c.loop_reserved.ensures c.if-c-loop_reserved.false));
+    }
 
 pub returns : goal.returns
 unfolding instructed executed

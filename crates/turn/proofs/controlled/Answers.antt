@@ -1,4 +1,3 @@
-use borrow.Author.Rules.{rules}
 use borrow.Author.Tests.{eq-eqb, ne_eqb}
 use Rattle.turn.specs.Turn.{controlled}
 use Rattle.turn.proofs.controlled.Goals as goal

@@ -1,5 +1,4 @@
 use mathlib.Core.Path.{sym, ◌∙◌, ap}
-use borrow.Author.Rules.{rules}
 use Rattle.opcodes.specs.Kind.{group_of}
 use Rattle.decode.proofs.Laws.{fetched_faithfully, fetched_kind}
 use Rattle.turn.specs.Turn.{executed, instructed}

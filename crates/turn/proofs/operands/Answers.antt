@@ -1,4 +1,3 @@
-use borrow.Author.Rules.{rules}
 use Rattle.turn.proofs.Laws.{operand_reserved, operand_done}
 use Rattle.turn.proofs.operands.Goals as goal
 

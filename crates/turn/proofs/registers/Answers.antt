@@ -1,4 +1,3 @@
-use borrow.Author.Rules.{rules}
 use Rattle.execute16.specs.Registers.{registers_effect}
 use Rattle.turn.specs.Turn.{executed, instructed}
 use Rattle.turn.proofs.Laws.{registers_free}

@@ -1,4 +1,3 @@
-use borrow.Author.Rules.{rules}
 use Rattle.turn.proofs.reserved.Goals as goal
 
 pub returns : goal.returns

@@ -1,6 +1,5 @@
 use Rattle.turn.specs.Turn.{turn_of}
 use borrow.Author.Tests.{lt-ltb, le-ltb}
-use borrow.Author.Rules.{rules}
 use Rattle.turn.proofs.turn_at.Goals as goal
 
 pub returns-then-standing : goal.returns-then-standing

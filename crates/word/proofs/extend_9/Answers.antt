@@ -1,4 +1,3 @@
-use Rattle.std.proofs.Common.{rules}
 use Rattle.word.proofs.extend_9.Goals as goal
 
 pub returns-then-sign : goal.returns-then-sign

@@ -1,4 +1,3 @@
-use borrow.Author.Rules.{rules}
 use Rattle.memory.proofs.Store.nine.Goals as goal
 
 pub returns : goal.returns

@@ -1,9 +1,6 @@
-use Prim.Native.Nat.{◌+◌, ◌≤◌, ◌-◌}
 use native.Mathlib.Omega.{arith}
-use mathlib.Core.Path.{◌≡◌, sym, ◌∙◌}
-use lib.ListN.{length, drop}
+use mathlib.Core.Path.{sym, ◌∙◌}
 use borrow.Author.Rules.{rules}
-use Rattle.migrate.specs.Migrated.{altered_count}
 use Rattle.migrate.proofs.Pages.{one_altered, none_altered, all_altered}
 use Rattle.migrate.proofs.page.altered.Goals as goal
 use Rattle.migrate.proofs.page.altered.Goals.{then-cleared-line, else-cleared-line}
@@ -14,7 +11,7 @@ loop-i-preserved c =
     let turn = c.loop-i in
     let inside = c.loop-i-test.true in
     elim c.if-cleared-line.branch [
-      then-cleared-line w ↦ (omega arith, rw (w.n-is, one_altered _ turn.i turn.n inside (λ e. w.if-cleared-line.true (same ∙ e))) turn.invariant.1)
+      | then-cleared-line w ↦ (omega arith, rw (w.n-is, one_altered _ turn.i turn.n inside (λ e. w.if-cleared-line.true (same ∙ e))) turn.invariant.1)
       | else-cleared-line w ↦ (omega arith, rw (w.n-is, none_altered _ turn.i turn.n inside (sym same ∙ w.if-cleared-line.false)) turn.invariant.1)
     ]
 

@@ -1,11 +1,7 @@
 use Prim.Native.Nat.{◌+◌, ◌≤◌, ◌-◌}
-use native.Mathlib.Omega.{arith}
-use mathlib.Core.Path.{◌≡◌, sym, ◌∙◌}
-
+use mathlib.Core.Path.{◌≡◌}
 use lib.ListN.{length, drop}
-use borrow.Author.Rules.{rules}
 use Rattle.migrate.specs.Migrated.{altered_count}
-use Rattle.migrate.proofs.Pages.{one_altered, none_altered, all_altered}
 use Rattle.migrate.proofs.page.altered.Given as goal
 
 abbrev pub invariant-loop-i : goal.invariant-loop-i

@@ -1,5 +1,4 @@
 use native.Mathlib.Omega.{arith}
-use borrow.Author.Rules.{rules}
 use Rattle.text.specs.Text.{ascii}
 use Rattle.migrate.proofs.Pages.{made}
 use Rattle.migrate.proofs.Renewed.{one_line_page}

@@ -1,4 +1,3 @@
-use borrow.Author.Rules.{rules}
 use Rattle.text.proofs.Laws.{and_then}
 use Rattle.migrate.proofs.Pages.{made}
 use Rattle.migrate.proofs.page.counts_text.Goals as goal

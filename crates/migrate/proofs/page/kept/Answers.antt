@@ -1,9 +1,5 @@
-use Prim.Native.Nat.{◌≤◌, ◌-◌}
 use native.Mathlib.Omega.{arith}
-use mathlib.Core.Path.{◌≡◌, refl, ◌∙◌}
-use lib.ListN.{length, drop}
-use borrow.Author.Rules.{rules}
-use Rattle.migrate.specs.Page.{paired, with_kept}
+use mathlib.Core.Path.{refl, ◌∙◌}
 use Rattle.migrate.proofs.Pages.{put_kept, left_out, one_kept, all_kept}
 use Rattle.migrate.proofs.page.kept.Goals as goal
 use Rattle.migrate.proofs.page.kept.Goals.{then-line-last, else-line-last}
@@ -16,7 +12,7 @@ loop-i-preserved c =
       omega arith,
       one_kept turn.page c.if-line-last.page _ turn.last line.result _ _ turn.i inside (omega (arith, c.requires)) line.ensures turn.invariant.1
           (elim c.if-line-last.branch [
-            then-line-last w ↦ put_kept turn.page c.if-line-last.page _ turn.last _ line.result w.if-line-last.true w.record_text.ensures (w.page-is ∙ w.put-page.ensures)
+            | then-line-last w ↦ put_kept turn.page c.if-line-last.page _ turn.last _ line.result w.if-line-last.true w.record_text.ensures (w.page-is ∙ w.put-page.ensures)
             | else-line-last w ↦ left_out turn.page c.if-line-last.page turn.last _ line.result w.if-line-last.false w.page-is
           ]),
     )

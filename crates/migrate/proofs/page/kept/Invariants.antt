@@ -1,11 +1,7 @@
 use Prim.Native.Nat.{◌≤◌, ◌-◌}
-use native.Mathlib.Omega.{arith}
-use mathlib.Core.Path.{◌≡◌, refl, ◌∙◌}
-
+use mathlib.Core.Path.{◌≡◌}
 use lib.ListN.{length, drop}
-use borrow.Author.Rules.{rules}
 use Rattle.migrate.specs.Page.{paired, with_kept}
-use Rattle.migrate.proofs.Pages.{put_kept, left_out, one_kept, all_kept}
 use Rattle.migrate.proofs.page.kept.Given as goal
 
 abbrev pub invariant-loop-i : goal.invariant-loop-i

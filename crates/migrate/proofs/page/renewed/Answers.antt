@@ -1,4 +1,3 @@
-use borrow.Author.Rules.{rules}
 use Rattle.migrate.proofs.Renewed.{page_within, renewed_page}
 use Rattle.migrate.proofs.page.renewed.Goals as goal
 

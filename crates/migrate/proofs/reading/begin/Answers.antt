@@ -1,4 +1,3 @@
-use borrow.Author.Rules.{rules}
 use Rattle.migrate.proofs.reading.begin.Goals as goal
 
 pub returns : goal.returns

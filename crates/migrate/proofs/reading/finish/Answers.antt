@@ -1,4 +1,3 @@
-use borrow.Author.Rules.{rules}
 use Rattle.migrate.proofs.reading.finish.Goals as goal
 
 pub returns-then-is_nothing : goal.returns-then-is_nothing

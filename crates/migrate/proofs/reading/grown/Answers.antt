@@ -1,4 +1,3 @@
-use borrow.Author.Rules.{rules}
 use Rattle.migrate.specs.Reading.{grown}
 use Rattle.migrate.proofs.reading.grown.Goals as goal
 

@@ -1,9 +1,6 @@
-use Prim.Native.Nat.{◌≤◌, ◌-◌}
 use native.Mathlib.Omega.{arith}
-use mathlib.Core.Path.{◌≡◌, refl, ◌∙◌}
-use lib.ListN.{length, drop}
-use borrow.Author.Rules.{rules}
-use Rattle.migrate.specs.Reading.{reading_is, read_on}
+use mathlib.Core.Path.{refl, ◌∙◌}
+use Rattle.migrate.specs.Reading.{reading_is}
 use Rattle.migrate.proofs.Bytes.{line_ends, line_goes_on, one_read, all_read}
 use Rattle.migrate.proofs.reading.read.Goals as goal
 use Rattle.migrate.proofs.reading.read.Goals.{then-b-eq10, else-b-eq10}
@@ -16,7 +13,7 @@ loop-i-preserved c =
       omega arith,
       one_read (reading_is turn.done turn.part) next _ _ turn.i inside turn.invariant.1
           (elim c.if-b-eq10.branch [
-            then-b-eq10 w ↦ line_ends turn.done turn.part _ _ _ w.if-b-eq10.true (w.done-is ∙ w.with_line-done.ensures) w.part-is
+            | then-b-eq10 w ↦ line_ends turn.done turn.part _ _ _ w.if-b-eq10.true (w.done-is ∙ w.with_line-done.ensures) w.part-is
             | else-b-eq10 w ↦ line_goes_on turn.done turn.part _ _ _ w.if-b-eq10.false w.done-is (w.part-is ∙ w.grown-part.ensures)
           ]),
     )

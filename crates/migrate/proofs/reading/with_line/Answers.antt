@@ -1,4 +1,3 @@
-use borrow.Author.Rules.{rules}
 use Rattle.migrate.proofs.reading.with_line.Goals as goal
 
 pub returns-in-Nothing : goal.returns-in-Nothing

@@ -1,6 +1,5 @@
 use native.Mathlib.Omega.{arith}
 use mathlib.Core.Path.{sym}
-use borrow.Author.Rules.{rules}
 use Rattle.text.proofs.Laws.{put_one, put_past}
 use Rattle.text.proofs.Text.put.Goals as goal
 

@@ -1,11 +1,6 @@
 use Prim.Native.Nat.{◌≤◌, ◌-◌}
-use native.Mathlib.Omega.{arith}
-use mathlib.Core.Path.{sym}
 use lib.ListN.{length, take}
-use lib.Seq.{take_all}
-use borrow.Author.Rules.{rules}
 use Rattle.text.specs.Text.{Followed}
-use Rattle.text.proofs.Laws.{none_yet, one_more_lem}
 use Rattle.text.proofs.Text.put_all.Given as goal
 
 abbrev pub invariant-loop-i : goal.invariant-loop-i

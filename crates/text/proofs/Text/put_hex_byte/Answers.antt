@@ -1,4 +1,3 @@
-use borrow.Author.Rules.{rules}
 use Rattle.text.proofs.Laws.{and_then}
 use Rattle.text.proofs.Text.put_hex_byte.Goals as goal
 

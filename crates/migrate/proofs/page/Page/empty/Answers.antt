@@ -1,4 +1,3 @@
-use borrow.Author.Rules.{rules}
 use Rattle.migrate.specs.Page.{empty_page}
 use Rattle.migrate.proofs.page.Page.empty.Goals as goal
 
