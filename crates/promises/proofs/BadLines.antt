@@ -8,7 +8,6 @@ use mathlib.Core.Bool.{Bool, true, false, ◌||◌, true≢false}
 use mathlib.Core.List.{List, [], ◌∷◌}
 use lib.ListN.{length, get_or, take, drop}
 use Rattle.word.specs.Word.{bit_of}
-use Rattle.state.specs.declared.State.{State}
 use Rattle.schedule.specs.Schedule.{withdrawn, any_withdrawn, passed}
 use Rattle.schedule.proofs.Laws.{or_left, or_right, in_force_stays}
 use Rattle.refusals.specs.Given.{Given, line_in}
@@ -16,7 +15,7 @@ use Rattle.refusals.proofs.Laws.{is_free}
 use Rattle.promises.specs.Replies.{BadLine, BadLineIn}
 use Rattle.promises.specs.SetBack.{gone, set_back, up_to, restated, handed}
 use Rattle.promises.specs.Warning.{NoBadLineInForce}
-use Rattle.promises.proofs.Exactly.{then, either, without}
+use Rattle.promises.proofs.Exactly.{either, without}
 
 pub bad_line : (line : ℕ) → (withdrawn line ≡ true) ↔ BadLine line
 bad_line line = either (bit_of 6 line) (bit_of 7 line) (λ e. e, λ e. e) (λ e. e, λ e. e)

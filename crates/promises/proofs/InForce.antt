@@ -6,11 +6,11 @@ use mathlib.Core.Path.{◌≡◌, refl, sym, ◌∙◌, ap}
 use mathlib.Core.Bool.{Bool, true, false, true≢false}
 use mathlib.Core.List.{List}
 use lib.ListN.{length, get_or}
-use Rattle.schedule.specs.Schedule.{rising, accepted, passed, line_before}
+use Rattle.schedule.specs.Schedule.{rising, passed, line_before}
 use Rattle.schedule.proofs.Laws.{passed_inside, passed_here, passed_on, accepted_same, accepted_rising, line_of_place}
 use Rattle.refusals.specs.Given.{Given, line_in}
 use Rattle.promises.specs.Replies.{BadSchedule}
-use Rattle.promises.specs.Plain.{InForceAt, EveryLineByte}
+use Rattle.promises.specs.Plain.{EveryLineByte}
 use Rattle.promises.proofs.Replies.{falling, fallen, good_schedule}
 
 -- each record is after the one before it, and so after every earlier one

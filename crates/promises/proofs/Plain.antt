@@ -6,7 +6,6 @@ use mathlib.Core.Path.{◌≡◌, refl, sym, ◌∙◌, ap}
 use mathlib.Core.Bool.{Bool, true, false, ◌&&◌, ◌||◌}
 use mathlib.Core.List.{List}
 use lib.Dec.{T, eqb, leb, eqb→eq}
-use lib.ListN.{length}
 use borrow.Author.Tests.{eq-eqb, ne_eqb, le-leb}
 use Rattle.word.specs.Word.{pick, plus_w, bit_of}
 use Rattle.word.proofs.Laws.{both, high_word_lem, low_word_lem}

@@ -9,7 +9,6 @@ use mathlib.Core.List.{List, [], ◌∷◌}
 use lib.Dec.{leb, ltb, eqb}
 use lib.ListN.{length, get_or}
 use borrow.Author.Tests.{eqb-true, eqb-false, eq-eqb, ne_eqb, ltb-false, le-ltb, leb-false, lt-leb}
-use Rattle.word.specs.Word.{pick}
 use Rattle.word.proofs.Laws.{both}
 use Rattle.memory.specs.Memory.{AreBytes}
 use Rattle.state.specs.declared.State.{State}

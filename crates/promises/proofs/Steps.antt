@@ -26,7 +26,7 @@ use Rattle.steps.proofs.Loop.{run_stops, run_spends, run_steps, after_twice, aft
 use Rattle.run.proofs.OneStep.{costs_one}
 use Rattle.walk.specs.Words.{Words}
 use Rattle.promises.proofs.Words.{every_boundary_has_words}
-use Rattle.promises.specs.Steps.{AStepIsATurn, after_steps, IsOfSteps, ARunIsItsSteps, ARunSplits, OneAfterAnother, RunsGoOn, TheClockGrows, WithinTheBudget}
+use Rattle.promises.specs.Steps.{AStepIsATurn, after_steps, IsOfSteps, ARunIsItsSteps, ARunSplits, RunsGoOn, TheClockGrows, WithinTheBudget}
 use Rattle.promises.specs.Steps.OneAfterAnother.{one_run, one_more_run}
 
 pub a_step_is_a_turn : AStepIsATurn

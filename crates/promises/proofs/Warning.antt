@@ -29,7 +29,7 @@ use Rattle.run.proofs.OneStep.{turn_rests}
 use Rattle.refusals.proofs.Laws.{is_free}
 use Rattle.promises.specs.Steps.{after_steps, IsOfSteps, OneAfterAnother}
 use Rattle.promises.specs.Steps.OneAfterAnother.{one_run, one_more_run}
-use Rattle.promises.specs.Warning.{state_at, memory_at, FirstFrom, Rises, Enters, TheWarningAtEveryCycle, Warned, TheWarningIsNeverLate, TheWarningAcrossRuns, NoStopBeforeTheFirst, ThereIsAFirst}
+use Rattle.promises.specs.Warning.{state_at, memory_at, FirstFrom, Rises, Enters, TheWarningAtEveryCycle, TheWarningIsNeverLate, TheWarningAcrossRuns, NoStopBeforeTheFirst, ThereIsAFirst}
 use Rattle.promises.proofs.Steps.{runs_go_on}
 use Rattle.promises.proofs.Frame.{frame_at}
 use Rattle.walk.proofs.Registers.{Below, word_at_lem, frame_bytes}

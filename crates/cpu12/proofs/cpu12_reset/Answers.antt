@@ -1,4 +1,3 @@
-use borrow.Author.Rules.{rules}
 use mathlib.Core.Path.{refl, sym, ◌∙◌}
 use Rattle.lent.proofs.Laws.{other_length}
 use Rattle.cpu12.proofs.Laws.{door_refuses, door_opens}

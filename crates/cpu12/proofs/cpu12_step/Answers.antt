@@ -1,4 +1,3 @@
-use borrow.Author.Rules.{rules}
 use mathlib.Core.Path.{sym, ◌∙◌, ap}
 use Rattle.state.specs.declared.State.{State}
 use Rattle.run.specs.Step.{step_of}

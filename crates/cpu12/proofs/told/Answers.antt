@@ -1,4 +1,3 @@
-use borrow.Author.Rules.{rules}
 use Rattle.cpu12.proofs.told.Goals as goal
 
 pub returns : goal.returns
