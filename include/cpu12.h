@@ -1,8 +1,8 @@
 /*
  * The CPU12 machine, for C: reset, one step, and a run, over lent bytes.
  *
- * Link target/staticlib/libcpu12.a, which `rt staticlib cpu12` writes, into an x86-64 program. docs/GUIDE-ABI.md says what is
- * proved of the functions, docs/MACHINE.md what the machine does.
+ * Link target/staticlib/libcpu12.a, which `tools/prove library cpu12` writes, into an x86-64 program. docs/GUIDE-ABI.md says what
+ * is proved of the functions, docs/MACHINE.md what the machine does.
  *
  * What a caller owes: each pointer points at as many bytes as the length beside it says, and the buffers of one call do not overlap.
  * Of length 0 nothing is read or written, and the pointer may be NULL: `NULL, 0` is the empty schedule. Nothing else is owed: every

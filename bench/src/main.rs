@@ -2,7 +2,6 @@
 //!
 //! Each image is run from reset, with the same schedule and budget on all machines. What they leave has to be the same to the last
 //! register and byte. docs/SPEED.md says what the images are and has the figures. The number of cycles may be given, for a short look.
-#![cfg_attr(feature = "plain_start", no_main)]
 
 use bench::images::{self, Image};
 use bench::trial::{self, Left, Timed};
@@ -10,9 +9,6 @@ use bench::CYCLES;
 
 /// How often a run is repeated; the shortest time counts.
 const REPEATS: u32 = 5;
-
-/// The second emulator is not the yardstick, and where an emulator runs all of this it takes many minutes for more.
-const REPEATS_OF_SECOND: u32 = if cfg!(feature = "plain_start") { 1 } else { REPEATS };
 
 /// What the machines did with an image; the times are in seconds.
 struct Measured {
@@ -26,17 +22,15 @@ struct Measured {
 fn measure(image: &Image) -> Result<Measured, String> {
     let [mut proved, mut simple, mut second] = [(); 3].map(|_| Timed::never());
     let mut cycles = 0;
-    for round in 0..REPEATS {
+    for _ in 0..REPEATS {
         let by_proved = trial::by_the_proved(image, &mut proved);
         if by_proved.reply != 0 {
             return Err(format!("{}: the proved machine replies {}", image.name, by_proved.reply));
         }
         let by_simple = trial::by_simple(image, &mut simple);
         agree(image, &by_proved, "simple", &by_simple)?;
-        if round < REPEATS_OF_SECOND {
-            let by_second = trial::by_the_second(image, &mut second);
-            agree(image, &by_proved, "second", &by_second)?;
-        }
+        let by_second = trial::by_the_second(image, &mut second);
+        agree(image, &by_proved, "second", &by_second)?;
         cycles = by_proved.cycles;
     }
     let [proved, simple, second] = [proved, simple, second].map(|timed| timed.seconds());
@@ -73,7 +67,7 @@ fn idles_as_it_says(image: &Image) -> Result<(), String> {
 }
 
 fn print_heading() {
-    println!("thread time in seconds, the best of {REPEATS} runs; second: {REPEATS_OF_SECOND}");
+    println!("thread time in seconds, the best of {REPEATS} runs");
     println!(
         "{:<18}{:>10}{:>9}{:>9}{:>9}{:>15}{:>15}",
         "image", "cycles", "proved", "simple", "second", "proved/simple", "proved/second"
@@ -120,4 +114,6 @@ fn answer(words: &[&str]) -> Result<(), String> {
     }
 }
 
-bench::main_that_does!(answer);
+fn main() {
+    std::process::exit(bench::start::status_of(answer));
+}

@@ -1,4 +1,4 @@
-//! Finds the proved static library: in the folder that `CPU12_LIBRARY` names, or else where `rt staticlib cpu12` writes it.
+//! Finds the proved static library: in the folder that `CPU12_LIBRARY` names, or else where `tools/prove library cpu12` writes it.
 //!
 //! A relative `CPU12_LIBRARY` is taken from the folder where cargo was called, as `PWD` has it, and then from this crate's folder, in
 //! which cargo runs this program.
@@ -27,7 +27,9 @@ fn is_missing(tried: &[PathBuf]) -> ! {
     for folder in tried {
         eprintln!("    {}", folder.join(LIBRARY).display());
     }
-    eprintln!("`rt staticlib cpu12`, called in the Kisuvmeta repository, proves and writes it.");
+    eprintln!(
+        "`tools/prove library cpu12`, called in the Kisuvmeta repository, proves and writes it."
+    );
     eprintln!("CPU12_LIBRARY names the folder of a library that lies elsewhere.");
     exit(1);
 }

@@ -1,5 +1,4 @@
 //! One image for a number of cycles, for tools/count_instructions: the run on one machine alone, and how many steps it takes.
-#![cfg_attr(feature = "plain_start", no_main)]
 
 use bench::images::{self, Image};
 use bench::trial::{self, Run, Timed};
@@ -43,4 +42,6 @@ fn answer(words: &[&str]) -> Result<(), String> {
     Ok(())
 }
 
-bench::main_that_does!(answer);
+fn main() {
+    std::process::exit(bench::start::status_of(answer));
+}

@@ -5,9 +5,9 @@
 //! functions of the static library as they are, over slices. All of it is safe: Rust sees to it that lent slices do not overlap and
 //! have their lengths, everything else is tested behind the boundary, and no function panics.
 //!
-//! The crate links the static library `libcpu12.a`, which `rt staticlib cpu12` writes. It is for x86-64, and found where that command
-//! writes it, or in the folder that `CPU12_LIBRARY` names. The crate allocates nothing and needs `core` alone; its feature `std`, on by
-//! default, makes [`Error`] a `std::error::Error`.
+//! The crate links the static library `libcpu12.a`, which `tools/prove library cpu12` writes. It is for x86-64, and found where that
+//! command writes it, or in the folder that `CPU12_LIBRARY` names. The crate allocates nothing and needs `core` alone; its feature `std`,
+//! on by default, makes [`Error`] a `std::error::Error`.
 //!
 //! What is proved of the machine, and what a state record looks like, is in the repository: `docs/GUIDE-ABI.md` for this boundary,
 //! `docs/MACHINE.md` for the machine's rules.

@@ -1,7 +1,7 @@
 //! The machine through the C boundary: every reply, every wrong length, and random cases beside the second emulator.
 //!
-//! A program with its own `main`, so that it also runs where an emulator stands in for x86-64. It ends with status 0 and one line, or
-//! panics. BOUNDARY_CASES and BOUNDARY_SEED give the number of random cases and their seed.
+//! A program with its own `main`, which tools/boundary compiles by rustc alone. It ends with status 0 and one line, or panics.
+//! BOUNDARY_CASES and BOUNDARY_SEED give the number of random cases and their seed.
 #![no_main]
 
 mod common;
