@@ -1,6 +1,6 @@
 -- The bench rows, by computation. Assumes nothing.
 use Prim.Native.Nat.{ℕ, ◌≤◌}
-use mathlib.Core.Path.{◌≡◌, refl, sym, ◌∙◌, ap, subst}
+use mathlib.Core.Path.{◌≡◌, refl, sym, subst}
 use mathlib.Core.Bool.{Bool, true, false, ◌&&◌}
 use mathlib.Core.List.{List, [], ◌∷◌}
 use lib.Dec.{T, leb, leb→le}
@@ -13,7 +13,7 @@ use Rattle.schedule.specs.Schedule.{rising_after, rising, any_withdrawn, in_forc
 use Rattle.opcodes.specs.Grid.{grid, grid_at, families, family_of}
 use Rattle.opcodes.specs.Map.{cell_of}
 use Rattle.opcodes.specs.Postbyte.{form_of, extension_of, reserved_of, length_of, cost_of, untaken_of}
-use Rattle.operand.specs.Indexed.{stepped_place, constant_place, accumulator_place, indexed_place}
+use Rattle.operand.specs.Indexed.{stepped_place, constant_place, indexed_place}
 use Rattle.operand.specs.Operand.{operand_place}
 use Rattle.decode.specs.Decode.{fetched_of}
 use Rattle.execute8.specs.Bytes.{accumulated, changed, with_a_effect, in_a_effect}

@@ -1,5 +1,6 @@
 use Prim.Native.Nat.{◌+◌, ◌-◌}
 use native.Mathlib.Omega.{arith}
+use borrow.Author.Rules.{rules}
 use mathlib.Core.Path.{sym, ◌∙◌, ap}
 use Rattle.turn.specs.Turn.{turn_of}
 use Rattle.refusals.specs.Given.{given_is}
@@ -52,7 +53,7 @@ loop-more-smaller-then-idle-gt0 c =
 pub loop-more-preserved-then-idle-gt0 : goal.loop-more-preserved-then-idle-gt0
 loop-more-preserved-then-idle-gt0 c =
     idled c.loop-more.invariant c.requires.cycles_value c.requires.cycles_len c.requires.budget_bound _ c.next_watch-watch.ensures _ c.idle_cycles-idle.ensures
-    c.if-idle-gt0.true _ c.with_clock-s.ensures
+    c.if-idle-gt0.true _ (search rules)
 
 pub turn_at-next-requires : goal.turn_at-next-requires
 turn_at-next-requires c =
