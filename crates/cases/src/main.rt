@@ -427,7 +427,8 @@ fn take(
 }
 
 fn read_more(
-    rt: &(impl Print + Input),
+    input: &mut impl Read,
+    out: &impl Print,
     line: &mut [u8],
     held: usize,
     memory: &mut [u8],
@@ -435,8 +436,8 @@ fn read_more(
     requires { length memory.old ≤ 65537 }
 {
     let mut chunk = [0u8; 65536];
-    let n = rt.reader().read(&mut chunk)?;
-    let left = take(rt, &chunk[..n], line, held, memory)?;
+    let n = input.read(&mut chunk)?;
+    let left = take(out, &chunk[..n], line, held, memory)?;
     Ok(Reading {
         more: n > 0,
         held: left,
@@ -445,13 +446,18 @@ fn read_more(
 
 // Reads to the end of the input, and says how many bytes of a last line without its end are held. A proved loop has
 // to end, and nothing says that the input does: it counts down from a number that no run uses up.
-fn drain(rt: &(impl Print + Input), line: &mut [u8], memory: &mut [u8]) -> io::Result<usize>
+fn drain(
+    input: &mut impl Read,
+    out: &impl Print,
+    line: &mut [u8],
+    memory: &mut [u8],
+) -> io::Result<usize>
     requires { length memory.old ≤ 65537 }
 {
     let mut held = 0;
     let mut reads = u64::MAX;
     while reads > 0 {
-        let reading = read_more(rt, line, held, memory)?;
+        let reading = read_more(input, out, line, held, memory)?;
         held = reading.held;
         if !reading.more {
             return Ok(held);
@@ -461,12 +467,17 @@ fn drain(rt: &(impl Print + Input), line: &mut [u8], memory: &mut [u8]) -> io::R
     Ok(held)
 }
 
-fn answer_all(rt: &(impl Print + Input), line: &mut [u8], memory: &mut [u8]) -> io::Result<()>
+fn answer_all(
+    input: &mut impl Read,
+    out: &impl Print,
+    line: &mut [u8],
+    memory: &mut [u8],
+) -> io::Result<()>
     requires { length memory.old ≤ 65537 }
 {
-    let held = drain(rt, line, memory)?;
+    let held = drain(input, out, line, memory)?;
     if held > 0 {
-        return finish(rt, line, held, memory);
+        return finish(out, line, held, memory);
     }
     Ok(())
 }
@@ -474,5 +485,5 @@ fn answer_all(rt: &(impl Print + Input), line: &mut [u8], memory: &mut [u8]) -> 
 fn main(rt: HostRuntime) -> io::Result<()> {
     let mut line = [0u8; 4096];
     let mut memory = [0u8; 65537];
-    answer_all(&rt, &mut line, &mut memory)
+    answer_all(&mut rt.stdin(), &rt, &mut line, &mut memory)
 }

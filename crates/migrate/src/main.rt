@@ -50,9 +50,9 @@ struct Chunk {
     failed: bool,
 }
 
-fn next_chunk(input: &impl Input) -> Chunk {
+fn next_chunk(input: &mut impl Read) -> Chunk {
     let mut bytes = [0u8; 4096];
-    match input.reader().read(&mut bytes) {
+    match input.read(&mut bytes) {
         Ok(n) => Chunk {
             bytes: bytes,
             n: n,
@@ -78,7 +78,7 @@ fn migrate_chunk(before: Reading, chunk: Chunk) -> Page {
 
 // Reads to the end of the input, one part ahead, so that its last part is at hand when the end is met: a text that comes in one part is
 // handed over whole. A proved loop has to end, and nothing says that the input does: it counts down from a number that no run uses up.
-fn answer_input(input: &impl Input) -> Page {
+fn answer_input(input: &mut impl Read) -> Page {
     let mut s = reading::begin();
     let mut held = next_chunk(input);
     let mut failed = held.failed;
@@ -100,5 +100,5 @@ fn answer_input(input: &impl Input) -> Page {
 }
 
 fn main(rt: HostRuntime) -> io::Result<()> {
-    answer_input(&rt).print(&rt)
+    answer_input(&mut rt.stdin()).print(&rt)
 }
