@@ -5,9 +5,7 @@ use Rattle.std.specs.Prelude.{◌≡◌, ℕ, suc, ◌+◌, ◌-◌, ◌%◌, �
 use Rattle.word.specs.Word.{bit_of}
 use Rattle.state.specs.declared.Flags.{Flags}
 use Rattle.state.specs.Ccr.{set_h, set_z, weight_of, ccr_of, flags_of}
-use Rattle.results.specs.declared.Byte.{Byte}
-use Rattle.results.specs.declared.Word.{Word}
-use Rattle.results.specs.Results.{byte_of, wide_of, set_nzv, set_nzvc, carried, sum_overflow, borrowed, difference_overflow}
+use Rattle.results.specs.Results.{Byte, Word, byte_of, wide_of, set_nzv, set_nzvc, carried, sum_overflow, borrowed, difference_overflow}
 
 -- The results, modulo 2 to the width.
 

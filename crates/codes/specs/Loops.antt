@@ -4,8 +4,7 @@
 use Rattle.std.specs.Prelude.{ℕ, ◌%◌, Bool, not, ◌==◌, nat_lt}
 use Rattle.word.specs.Word.{pick}
 use Rattle.alu.specs.Alu.{one_more, one_less}
-use Rattle.codes.specs.declared.Count8.{Count8}
-use Rattle.codes.specs.declared.Count16.{Count16}
+use Rattle.codes.specs.declared.Counting.{Counting}
 
 -- (Counter) - 1 in DBEQ (p. 6-70) and DBNE (6-71), (Counter) as it is in TBEQ (6-200) and TBNE (6-202), (Counter) + 1 in IBEQ (6-92) and
 -- IBNE (6-93)
@@ -16,8 +15,18 @@ counted k kind n = pick (nat_lt kind 2) (one_less k n) (pick (nat_lt kind 4) n (
 abbrev pub taken : ℕ → ℕ → Bool
 taken kind n = pick (kind % 2 == 0) (n == 0) (not (n == 0))
 
+-- a counter after one turn, of whatever width, and whether it branches; a value of a width is a number, and `of` makes it one
+abbrev pub count_of : {W : Type 0} → (ℕ → W) → ℕ → ℕ → ℕ → Counting W
+count_of of k kind n = record { counter = of (counted k kind n); taken = taken kind (counted k kind n) }
+
+abbrev pub Count8 : Type 0
+Count8 = Counting ℕ
+
 abbrev pub count_byte : ℕ → ℕ → Count8
 count_byte kind n = record { counter = counted 7 kind n; taken = taken kind (counted 7 kind n) }
+
+abbrev pub Count16 : Type 0
+Count16 = Counting ℕ
 
 abbrev pub count_word : ℕ → ℕ → Count16
 count_word kind n = record { counter = counted 15 kind n; taken = taken kind (counted 15 kind n) }

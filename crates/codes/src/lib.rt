@@ -3,10 +3,13 @@
 
 ghost use Rattle.std.specs.Prelude.{◌≡◌, ◌%◌, not, ◌==◌};
 ghost use Rattle.word.specs.Word.{pick};
-ghost use Rattle.codes.specs.Conditions.{andcc_of, orcc_of, sign_wrong, condition_of};
-ghost use Rattle.codes.specs.Loops.{counted, count_byte, count_word};
+ghost use Rattle.opcodes.specs.Kind.{condition_number};
+ghost use Rattle.codes.specs.Conditions.{andcc_of, orcc_of, condition_of};
+ghost use Rattle.codes.specs.Loops.{counted, count_of};
 
-use opcodes::member;
+use alu::{one_less, one_more};
+use opcodes::kind::Condition;
+use results::{Width, exclusive_or};
 use state::Flags;
 
 pub fn andcc(f: Flags, mask: u8) -> Flags
@@ -21,73 +24,47 @@ pub fn orcc(f: Flags, mask: u8) -> Flags
     f.take_ccr(f.ccr() | mask)
 }
 
-// N and V differ: a signed difference that is below zero.
-fn sign_wrong(f: Flags) -> bool
-    ensures { result ≡ sign_wrong f }
+// Whether a branch is taken.
+pub fn condition(f: Flags, c: Condition) -> bool
+    ensures { result ≡ condition_of f (condition_number c) }
 {
-    f.n & !f.v | !f.n & f.v
-}
-
-// Whether a branch is taken; `code` is the member of its group, the low digit of its opcode.
-pub fn condition(f: Flags, code: u16) -> bool
-    ensures { result ≡ condition_of f code }
-{
-    let wrong = sign_wrong(f);
-    match code {
-        member::BRA => true,
-        member::BRN => false,
-        member::BHI => !(f.c | f.z),
-        member::BLS => f.c | f.z,
-        member::BCC => !f.c,
-        member::BCS => f.c,
-        member::BNE => !f.z,
-        member::BEQ => f.z,
-        member::BVC => !f.v,
-        member::BVS => f.v,
-        member::BPL => !f.n,
-        member::BMI => f.n,
-        member::BGE => !wrong,
-        member::BLT => wrong,
-        member::BGT => !(f.z | wrong),
-        member::BLE => f.z | wrong,
-        _ => false,
+    // N and V differ: a signed difference that is below zero.
+    let wrong = exclusive_or(f.n, f.v);
+    match c {
+        Condition::Ra => true,
+        Condition::Rn => false,
+        Condition::Hi => !(f.c | f.z),
+        Condition::Ls => f.c | f.z,
+        Condition::Cc => !f.c,
+        Condition::Cs => f.c,
+        Condition::Ne => !f.z,
+        Condition::Eq => f.z,
+        Condition::Vc => !f.v,
+        Condition::Vs => f.v,
+        Condition::Pl => !f.n,
+        Condition::Mi => f.n,
+        Condition::Ge => !wrong,
+        Condition::Lt => wrong,
+        Condition::Gt => !(f.z | wrong),
+        Condition::Le => f.z | wrong,
     }
 }
 
+// A counter after one turn of a loop primitive, and whether it branches.
 #[derive(Clone, Copy)]
-pub struct Count8 {
-    pub counter: u8,
+pub struct Counting<T> {
+    pub counter: T,
     pub taken: bool,
 }
 
-#[derive(Clone, Copy)]
-pub struct Count16 {
-    pub counter: u16,
-    pub taken: bool,
-}
-
-fn counted_8(kind: u8, n: u8) -> u8
-    ensures { result ≡ counted 7 kind n }
+fn counted<W: Width>(kind: u8, n: W) -> W
+    ensures { result ≡ W.of (counted W.top kind (W.number n)) }
 {
-    if kind < 2 {
-        return alu::minus_8(n, 1);
+    match kind {
+        0 | 1 => one_less(n),
+        2 | 3 => n,
+        _ => one_more(n),
     }
-    if kind < 4 {
-        return n;
-    }
-    std::num::wrapping_add_u8(n, 1)
-}
-
-fn counted_16(kind: u8, n: u16) -> u16
-    ensures { result ≡ counted 15 kind n }
-{
-    if kind < 2 {
-        return word::minus(n, 1);
-    }
-    if kind < 4 {
-        return n;
-    }
-    word::plus(n, 1)
 }
 
 // An even kind branches on zero, an odd one on not zero.
@@ -97,26 +74,11 @@ fn branches(kind: u8, zero: bool) -> bool
     if kind % 2 == 0 { zero } else { !zero }
 }
 
-// One turn of a loop primitive whose counter is A or B.
-pub fn count_8(kind: u8, n: u8) -> Count8
-    ensures { result ≡ count_byte kind n }
+// One turn of a loop primitive. The kind is bits 7 to 5 of its postbyte.
+pub fn count<W: Width>(kind: u8, n: W) -> Counting<W>
+    ensures { result ≡ count_of W.of W.top kind (W.number n) }
 {
-    let counter = counted_8(kind, n);
-    let taken = branches(kind, counter == 0);
-    Count8 {
-        counter: counter,
-        taken: taken,
-    }
-}
-
-// One turn of a loop primitive whose counter is D, X, Y or SP.
-pub fn count_16(kind: u8, n: u16) -> Count16
-    ensures { result ≡ count_word kind n }
-{
-    let counter = counted_16(kind, n);
-    let taken = branches(kind, counter == 0);
-    Count16 {
-        counter: counter,
-        taken: taken,
-    }
+    let counter = counted(kind, n);
+    let taken = branches(kind, counter.is_zero());
+    Counting { counter, taken }
 }

@@ -1,6 +1,6 @@
 -- The laws of what a door leaves, on the definitions alone. Assumes nothing.
 use Prim.Native.Nat.{ℕ}
-use mathlib.Core.Path.{◌≡◌, sym, ◌∙◌}
+use mathlib.Core.Path.{◌≡◌, refl, sym, ◌∙◌}
 use mathlib.Core.Bool.{true, false}
 use mathlib.Core.List.{List}
 use lib.Dec.{eqb}
@@ -8,6 +8,9 @@ use borrow.Author.Tests.{eq-eqb, ne_eqb}
 use Rattle.steps.specs.declared.Answer.{Answer}
 use Rattle.machine.specs.Names.{number_of}
 use Rattle.steps.specs.End.{End, Ends}
+use Rattle.lent.specs.declared.LentError.{LentError}
+use Rattle.lent.specs.Lent.{error_number}
+use Rattle.lent.proofs.Laws.{error_counts}
 use Rattle.packing.specs.Bytes.{bytes_of}
 use Rattle.cpu12.specs.Doors.{unless, told, Left, Leaves, OneOutcome}
 
@@ -39,3 +42,10 @@ one_outcome l reply reply' r r' m m' a b = (
   a.reply_is ∙ sym b.reply_is,
   (a.state_is ∙ sym b.state_is, a.memory_is ∙ sym b.memory_is),
 )
+
+-- an error has a number that is not 0, and so its door refuses
+pub error_refuses : (e : LentError) (n : ℕ) (r m : List ℕ) (l : Left) {v : ℕ} → v ≡ error_number e → error_number e ≡ n → Leaves (unless n r m l) v r m
+error_refuses e n r m l told is = door_refuses n r m l (told ∙ is) (λ z. error_counts e (sym told ∙ z))
+
+pub passes_opens : (n : ℕ) (r m : List ℕ) (l : Left) {reply : ℕ} {r' m' : List ℕ} → 0 ≡ n → Leaves l reply r' m' → Leaves (unless n r m l) reply r' m'
+passes_opens n r m l is done = door_opens n r m l is refl done

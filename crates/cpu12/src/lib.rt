@@ -24,37 +24,30 @@ fn told(r: &mut [u8], answer: Answer) -> u32
     ensures { (result ≡ number_of answer.reply) × (r.new ≡ bytes_of answer.machine.state answer.cycles) }
 {
     let machine = answer.machine;
-    let state = machine.state;
-    let reply = answer.reply;
-    packing::put_record(r, state, answer.cycles);
-    reply.number() as u32
+    packing::put_record(r.as_mut_array().unwrap(), machine.state, answer.cycles);
+    u32::from(answer.reply.number())
 }
 
 #[unsafe(no_mangle)]
 pub extern "C" fn cpu12_reset(state: &mut [u8], m: &[u8]) -> u32
     ensures { Leaves (reset_leaves state.old m.now) result state.new m.now }
 {
-    let refusal = lent::length_refusal(&state[..]);
-    if refusal != 0 {
-        return refusal;
+    if let Err(refused) = lent::check_length(state) {
+        return refused.number();
     }
     let started = Machine::reset(m);
     let machine = started.machine;
-    let after = machine.state;
-    let reply = started.reply;
-    packing::put_record(state, after, 0);
-    reply.number() as u32
+    told(state, steps::answered(started.reply, machine.state, 0))
 }
 
 #[unsafe(no_mangle)]
 pub extern "C" fn cpu12_step(state: &mut [u8], m: &mut [u8], line: u8) -> u32
     ensures { Leaves (step_leaves state.old m.old line) result state.new m.new }
 {
-    let refusal = lent::record_refusal(&state[..]);
-    if refusal != 0 {
-        return refusal;
-    }
-    let before = packing::state_of(&state[..]);
+    let before = match lent::check_record(state) {
+        Ok(record) => packing::state_of(record),
+        Err(refused) => return refused.number(),
+    };
     told(state, run::step(Machine::of(before), m, line))
 }
 
@@ -62,11 +55,13 @@ pub extern "C" fn cpu12_step(state: &mut [u8], m: &mut [u8], line: u8) -> u32
 pub extern "C" fn cpu12_run(state: &mut [u8], m: &mut [u8], schedule: &[u8], budget: u32) -> u32
     ensures { Leaves (run_leaves state.old m.old schedule.now budget) result state.new m.new }
 {
-    let refusal = lent::lent_refusal(&state[..], schedule);
-    if refusal != 0 {
-        return refusal;
-    }
-    let before = packing::state_of(&state[..]);
-    let t = packing::unpacked(schedule);
-    told(state, records::run_table(Machine::of(before), m, t, budget))
+    let before = match lent::check_lent(state, schedule) {
+        Ok(record) => packing::state_of(record),
+        Err(refused) => return refused.number(),
+    };
+    let schedule = packing::unpacked(schedule);
+    told(
+        state,
+        records::run_table(Machine::of(before), m, schedule, budget),
+    )
 }

@@ -3,8 +3,7 @@ use Rattle.std.specs.Prelude.{ℕ, ◌+◌, ◌/◌, ◌%◌, Bool, true, false,
 use Rattle.std.specs.Bool.{beq}
 use Rattle.word.specs.Word.{bit_of, pick}
 use Rattle.state.specs.declared.Flags.{Flags}
-use Rattle.results.specs.declared.Byte.{Byte}
-use Rattle.results.specs.Results.{byte_of, set_nzvc}
+use Rattle.results.specs.Results.{Byte, byte_of, set_nzvc}
 
 -- Initial C Bit Value, Value of A[7:4] from and to, Initial H Bit Value, Value of A[3:0] from and to, Correction Factor,
 -- Corrected C Bit Value

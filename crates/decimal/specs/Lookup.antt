@@ -3,9 +3,7 @@ use Rattle.std.specs.Prelude.{◌≡◌, ℕ, ◌+◌, ◌-◌, ◌*◌, ◌/◌
 use Rattle.word.specs.Word.{bit_of, pick}
 use Rattle.state.specs.declared.Flags.{Flags}
 use Rattle.state.specs.Ccr.{set_n, set_z}
-use Rattle.results.specs.declared.Byte.{Byte}
-use Rattle.results.specs.declared.Word.{Word}
-use Rattle.results.specs.Results.{byte_of, wide_of}
+use Rattle.results.specs.Results.{Byte, Word, byte_of, wide_of}
 
 -- Y1 + [(B) × (Y2 - Y1)]: the product has its radix point between bits 7 and 8, and its integer part is added to Y1. Where the
 -- table falls the product is below zero, and its integer part, rounded down too, takes away the magnitude rounded up. The sum lies

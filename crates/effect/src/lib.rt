@@ -2,18 +2,18 @@
 // any of it is done, so that all reads come before all writes and no part of a step is ever spent.
 #![tactic(auto)]
 
-ghost use Rattle.std.specs.Prelude.{◌≡◌, ◌+◌, ◌<◌, length};
+ghost use Rattle.std.specs.Prelude.{◌≡◌, ◌+◌, ◌<◌};
 ghost use Rattle.memory.specs.Memory.{committed};
 ghost use Rattle.effect.specs.Effect.{writes as writes_of, quiet as quiet_of, acted};
 
-use memory::Store;
+use memory::{Memory, Store};
 use state::State;
 
 #[derive(Clone, Copy)]
 pub struct Effect {
+    pub store: Store,
     pub state: State,
     pub cost: u8,
-    pub store: Store,
 }
 
 pub fn writes(s: State, cost: u8, w: Store) -> Effect
@@ -21,7 +21,7 @@ pub fn writes(s: State, cost: u8, w: Store) -> Effect
 {
     Effect {
         state: s,
-        cost: cost,
+        cost,
         store: w,
     }
 }
@@ -33,13 +33,10 @@ pub fn quiet(s: State, cost: u8) -> Effect
 }
 
 // What was worked out is done: its store is made, and the clock moves by its cost. The one place where a step takes effect.
-pub fn act(s: State, m: &mut [u8], e: Effect) -> State
-    requires m_len { length m.old ≡ 65536 }
+pub fn act(s: State, m: &mut Memory, e: Effect) -> State
     requires cost_bound { s.clock + e.cost < 4294967296 }
     ensures { (result ≡ acted s e) × (m.new ≡ committed m.old e.store) }
 {
-    let after = e.state;
-    let store = e.store;
-    memory::commit(m, store);
-    after.with_clock(s.clock + e.cost as u32)
+    memory::commit(m, e.store);
+    e.state.with_clock(s.clock + u32::from(e.cost))
 }

@@ -2,239 +2,182 @@
 // lookup. Where an operand lies was found before; what two sizes may have is read here.
 #![tactic(auto)]
 
-ghost use Rattle.std.specs.Prelude.{◌≡◌, length};
+ghost use Rattle.std.specs.Prelude.{◌≡◌};
+ghost use Rattle.word.specs.Word.{plus_w};
 ghost use Rattle.state.specs.State.{with_flags};
-ghost use Rattle.effect.specs.Effect.{quiet};
-ghost use Rattle.execute16.specs.Words.{loaded_word, d_result, x_result, y_result, sp_result, compared as compared_of};
-ghost use Rattle.execute16.specs.Words.{worded as worded_of, word_with, byte_stored, word_stored, stored, byte_chosen, word_chosen, chosen};
-ghost use Rattle.execute16.specs.Registers.{first_registers, second_registers, registered};
+ghost use Rattle.opcodes.specs.declared.kind.Kind.TheVariants.{WithWord, Store as AStore, Registers, Choose, LookUp};
+ghost use Rattle.results.specs.Results.{outcome_of, result_codes};
+ghost use Rattle.decimal.specs.Lookup.{lookup_of, lookup_codes};
+ghost use Rattle.effect.specs.Effect.{quiet, writes};
+ghost use Rattle.execute16.specs.Words.{register_with, register_result, worded as worded_of, word_with, stored as stored_of, chosen as chosen_of};
+ghost use Rattle.execute16.specs.Registers.{registered as registered_of};
 ghost use Rattle.execute16.specs.Lookups.{looked_up};
 
 use effect::Effect;
-use execute8::{a_result, b_result};
-use memory::Store;
-use opcodes::kind;
-use results::{Byte, Word};
+use execute8::{Accumulator, loaded};
+use memory::{Data, Memory};
+use opcodes::kind::{Choice, Lookup, RegisterOp, StoreOp, WordOp};
+use results::{Outcome, Width, Word};
 use state::{Flags, State};
 
-fn loaded_word(f: Flags, m: u16) -> Word
-    ensures { result ≡ loaded_word f m }
-{
-    let flags = results::result_16(f, m);
-    Word {
-        value: m,
-        flags: flags,
+// The register of 16 bits that takes a result.
+#[derive(Clone, Copy)]
+pub enum WordRegister {
+    D,
+    X,
+    Y,
+    Sp,
+}
+
+impl WordRegister {
+    pub fn with(self, s: State, v: u16) -> State
+        ensures { result ≡ register_with self s v }
+    {
+        match self {
+            WordRegister::D => s.with_d(v),
+            WordRegister::X => s.with_x(v),
+            WordRegister::Y => s.with_y(v),
+            WordRegister::Sp => s.with_sp(v),
+        }
+    }
+
+    pub fn result(self, s: State, r: Word) -> State
+        ensures { result ≡ register_result self s r }
+    {
+        self.with(s, r.value).with_flags(r.flags)
     }
 }
 
-pub fn d_result(s: State, r: Word) -> State
-    ensures { result ≡ d_result s r }
-{
-    let flags = r.flags;
-    s.with_d(r.value).with_flags(flags)
-}
-
-fn x_result(s: State, r: Word) -> State
-    ensures { result ≡ x_result s r }
-{
-    let flags = r.flags;
-    s.with_x(r.value).with_flags(flags)
-}
-
-fn y_result(s: State, r: Word) -> State
-    ensures { result ≡ y_result s r }
-{
-    let flags = r.flags;
-    s.with_y(r.value).with_flags(flags)
-}
-
-fn sp_result(s: State, r: Word) -> State
-    ensures { result ≡ sp_result s r }
-{
-    let flags = r.flags;
-    s.with_sp(r.value).with_flags(flags)
-}
-
-fn compared(s: State, r: Word) -> State
-    ensures { result ≡ compared_of s r }
-{
-    let flags = r.flags;
-    s.with_flags(flags)
-}
-
-fn worded(kind: u16, s: State, m: u16) -> State
-    ensures { result ≡ worded_of kind s m }
+#[tactic(auto, unfolding(crate::specs::Words::worded))]
+fn worded(op: WordOp, s: State, m: u16) -> State
+    ensures { result ≡ worded_of (WithWord op) s m }
 {
     let f = s.flags;
-    match kind {
-        kind::SUBD => d_result(s, alu::sub_16(f, s.d(), m)),
-        kind::ADDD => d_result(s, alu::add_16(f, s.d(), m)),
-        kind::CPD => compared(s, alu::sub_16(f, s.d(), m)),
-        kind::CPY => compared(s, alu::sub_16(f, s.y, m)),
-        kind::CPX => compared(s, alu::sub_16(f, s.x, m)),
-        kind::CPS => compared(s, alu::sub_16(f, s.sp, m)),
-        kind::LDD => d_result(s, loaded_word(f, m)),
-        kind::LDY => y_result(s, loaded_word(f, m)),
-        kind::LDX => x_result(s, loaded_word(f, m)),
-        _ => sp_result(s, loaded_word(f, m)),
+    match op {
+        WordOp::Subd => WordRegister::D.result(s, alu::sub(f, s.d(), m, false)),
+        WordOp::Addd => WordRegister::D.result(s, alu::add(f, s.d(), m, false)),
+        WordOp::Cpd => s.with_flags(alu::sub(f, s.d(), m, false).flags),
+        WordOp::Cpy => s.with_flags(alu::sub(f, s.y, m, false).flags),
+        WordOp::Cpx => s.with_flags(alu::sub(f, s.x, m, false).flags),
+        WordOp::Cps => s.with_flags(alu::sub(f, s.sp, m, false).flags),
+        WordOp::Ldd => WordRegister::D.result(s, loaded(f, m)),
+        WordOp::Ldy => WordRegister::Y.result(s, loaded(f, m)),
+        WordOp::Ldx => WordRegister::X.result(s, loaded(f, m)),
+        WordOp::Lds => WordRegister::Sp.result(s, loaded(f, m)),
     }
 }
 
 // D, X, Y or SP with the word `v`.
-pub fn with_word(s: State, kind: u16, v: u16, cost: u8) -> Effect
-    ensures { result ≡ word_with s kind v cost }
+pub fn with_word(s: State, op: WordOp, v: u16, cost: u8) -> Effect
+    ensures { result ≡ word_with s (WithWord op) v cost }
 {
-    effect::quiet(worded(kind, s, v), cost)
+    effect::quiet(worded(op, s, v), cost)
 }
 
-fn byte_stored(s: State, cost: u8, a: u16, v: u8) -> Effect
-    ensures { result ≡ byte_stored s cost a v }
+// A byte or a word is stored, with the codes of what is moved.
+fn stored<T: Data + Width>(s: State, cost: u8, a: u16, v: T) -> Effect
+    ensures { result ≡ writes (with_flags s (result_codes T.top s.flags (T.number v))) cost (T.store_at a v) }
 {
-    let f = s.flags;
-    effect::writes(
-        s.with_flags(results::result_8(f, v)),
-        cost,
-        Store::byte(a, v),
-    )
-}
-
-fn word_stored(s: State, cost: u8, a: u16, v: u16) -> Effect
-    ensures { result ≡ word_stored s cost a v }
-{
-    let f = s.flags;
-    effect::writes(
-        s.with_flags(results::result_16(f, v)),
-        cost,
-        Store::word(a, v),
-    )
+    let flags = results::result_codes(s.flags, v);
+    effect::writes(s.with_flags(flags), cost, v.store(a))
 }
 
 // A register is stored at the address `a`.
-pub fn store(s: State, kind: u16, cost: u8, a: u16) -> Effect
-    ensures { result ≡ stored kind s cost a }
+#[tactic(auto, unfolding(crate::specs::Words::stored))]
+pub fn store(s: State, op: StoreOp, cost: u8, a: u16) -> Effect
+    ensures { result ≡ stored_of (AStore op) s cost a }
 {
-    match kind {
-        kind::STAA => byte_stored(s, cost, a, s.a),
-        kind::STAB => byte_stored(s, cost, a, s.b),
-        kind::STD => word_stored(s, cost, a, s.d()),
-        kind::STY => word_stored(s, cost, a, s.y),
-        kind::STX => word_stored(s, cost, a, s.x),
-        _ => word_stored(s, cost, a, s.sp),
+    match op {
+        StoreOp::Staa => stored(s, cost, a, s.a),
+        StoreOp::Stab => stored(s, cost, a, s.b),
+        StoreOp::Std => stored(s, cost, a, s.d()),
+        StoreOp::Sty => stored(s, cost, a, s.y),
+        StoreOp::Stx => stored(s, cost, a, s.x),
+        StoreOp::Sts => stored(s, cost, a, s.sp),
     }
 }
 
-fn byte_chosen(s: State, cost: u8, a: u16, r: Byte) -> Effect
-    ensures { result ≡ byte_chosen s cost a r }
+// The result of a choice in memory.
+fn chosen<T: Data>(s: State, cost: u8, a: u16, r: Outcome<T>) -> Effect
+    ensures { result ≡ writes (with_flags s r.flags) cost (T.store_at a r.value) }
 {
-    let flags = r.flags;
-    effect::writes(s.with_flags(flags), cost, Store::byte(a, r.value))
-}
-
-fn word_chosen(s: State, cost: u8, a: u16, r: Word) -> Effect
-    ensures { result ≡ word_chosen s cost a r }
-{
-    let flags = r.flags;
-    effect::writes(s.with_flags(flags), cost, Store::word(a, r.value))
+    effect::writes(s.with_flags(r.flags), cost, r.value.store(a))
 }
 
 // The larger or smaller of a register and the operand at the address `a`.
-pub fn choose(s: State, m: &[u8], kind: u16, cost: u8, a: u16) -> Effect
-    requires { length m.now ≡ 65536 }
-    ensures { result ≡ chosen kind s m.now cost a }
+#[tactic(auto, unfolding(crate::specs::Words::chosen))]
+pub fn choose(s: State, m: &Memory, op: Choice, cost: u8, a: u16) -> Effect
+    ensures { result ≡ chosen_of (Choose op) s m.now cost a }
 {
     let f = s.flags;
-    match kind {
-        kind::MAXA => effect::quiet(
-            a_result(s, alu::max_8(f, s.a, memory::read_byte(m, a))),
+    match op {
+        Choice::Maxa => effect::quiet(
+            Accumulator::A.result(s, alu::max(f, s.a, memory::read_byte(m, a))),
             cost,
         ),
-        kind::MINA => effect::quiet(
-            a_result(s, alu::min_8(f, s.a, memory::read_byte(m, a))),
+        Choice::Mina => effect::quiet(
+            Accumulator::A.result(s, alu::min(f, s.a, memory::read_byte(m, a))),
             cost,
         ),
-        kind::EMAXD => effect::quiet(
-            d_result(s, alu::max_16(f, s.d(), memory::read_word(m, a))),
+        Choice::Emaxd => effect::quiet(
+            WordRegister::D.result(s, alu::max(f, s.d(), memory::read_word(m, a))),
             cost,
         ),
-        kind::EMIND => effect::quiet(
-            d_result(s, alu::min_16(f, s.d(), memory::read_word(m, a))),
+        Choice::Emind => effect::quiet(
+            WordRegister::D.result(s, alu::min(f, s.d(), memory::read_word(m, a))),
             cost,
         ),
-        kind::MAXM => byte_chosen(s, cost, a, alu::max_8(f, s.a, memory::read_byte(m, a))),
-        kind::MINM => byte_chosen(s, cost, a, alu::min_8(f, s.a, memory::read_byte(m, a))),
-        kind::EMAXM => word_chosen(s, cost, a, alu::max_16(f, s.d(), memory::read_word(m, a))),
-        _ => word_chosen(s, cost, a, alu::min_16(f, s.d(), memory::read_word(m, a))),
-    }
-}
-
-fn first_registers(kind: u16, s: State) -> State
-    ensures { result ≡ first_registers kind s }
-{
-    let f = s.flags;
-    match kind {
-        kind::LSRD => d_result(s, shift::lsrd(f, s.d())),
-        kind::ASLD => d_result(s, shift::asld(f, s.d())),
-        kind::INX => x_result(s, alu::inx(f, s.x)),
-        kind::INY => y_result(s, alu::inx(f, s.y)),
-        kind::DEX => x_result(s, alu::dex(f, s.x)),
-        kind::DEY => y_result(s, alu::dex(f, s.y)),
-        kind::ABA => a_result(s, alu::add_8(f, s.a, s.b, false)),
-        _ => a_result(s, alu::sub_8(f, s.a, s.b, false)),
-    }
-}
-
-fn byte_compared(s: State, r: Byte) -> State
-    ensures { result ≡ with_flags s r.flags }
-{
-    let flags = r.flags;
-    s.with_flags(flags)
-}
-
-fn second_registers(kind: u16, s: State, n: u8) -> State
-    ensures { result ≡ second_registers kind s n }
-{
-    let f = s.flags;
-    match kind {
-        kind::CBA => byte_compared(s, alu::sub_8(f, s.a, s.b, false)),
-        kind::DAA => a_result(s, decimal::daa(f, s.a)),
-        kind::TAB => b_result(s, execute8::loaded_byte(f, s.a)),
-        kind::TBA => a_result(s, execute8::loaded_byte(f, s.b)),
-        kind::ANDCC => s.with_flags(codes::andcc(f, n)),
-        kind::ORCC => s.with_flags(codes::orcc(f, n)),
-        kind::TFR_EXG => transfers::transfer(s, n),
-        _ => s,
+        Choice::Maxm => chosen(s, cost, a, alu::max(f, s.a, memory::read_byte(m, a))),
+        Choice::Minm => chosen(s, cost, a, alu::min(f, s.a, memory::read_byte(m, a))),
+        Choice::Emaxm => chosen(s, cost, a, alu::max(f, s.d(), memory::read_word(m, a))),
+        Choice::Eminm => chosen(s, cost, a, alu::min(f, s.d(), memory::read_word(m, a))),
     }
 }
 
 // `n` is the byte after the opcode, a mask or a postbyte, which most of these do not look at.
-pub fn registers(s: State, kind: u16, n: u8, cost: u8) -> Effect
-    ensures { result ≡ registered s kind n cost }
-{
-    if kind < kind::CBA {
-        return effect::quiet(first_registers(kind, s), cost);
-    }
-    effect::quiet(second_registers(kind, s, n), cost)
-}
-
-fn looked_up(kind: u16, s: State, m: &[u8], a: u16) -> State
-    requires { length m.now ≡ 65536 }
-    ensures { result ≡ looked_up kind s m.now a }
+#[tactic(auto, unfolding(crate::specs::Registers::first_registers, crate::specs::Registers::second_registers, crate::specs::Registers::registered))]
+pub fn registers(s: State, op: RegisterOp, n: u8, cost: u8) -> Effect
+    ensures { result ≡ registered_of s (Registers op) n cost }
 {
     let f = s.flags;
-    if kind == kind::TBL {
-        let y1 = memory::read_byte(m, a);
-        let y2 = memory::read_byte(m, word::plus(a, 1));
-        return a_result(s, decimal::tbl(f, s.b, y1, y2));
-    }
-    let y1 = memory::read_word(m, a);
-    let y2 = memory::read_word(m, word::plus(a, 2));
-    d_result(s, decimal::etbl(f, s.b, y1, y2))
+    let after = match op {
+        RegisterOp::Lsrd => WordRegister::D.result(s, shift::lsr(f, s.d())),
+        RegisterOp::Asld => WordRegister::D.result(s, shift::asl(f, s.d())),
+        RegisterOp::Inx => WordRegister::X.result(s, alu::inx(f, s.x)),
+        RegisterOp::Iny => WordRegister::Y.result(s, alu::inx(f, s.y)),
+        RegisterOp::Dex => WordRegister::X.result(s, alu::dex(f, s.x)),
+        RegisterOp::Dey => WordRegister::Y.result(s, alu::dex(f, s.y)),
+        RegisterOp::Aba => Accumulator::A.result(s, alu::add_8(f, s.a, s.b, false)),
+        RegisterOp::Sba => Accumulator::A.result(s, alu::sub(f, s.a, s.b, false)),
+        RegisterOp::Cba => s.with_flags(alu::sub(f, s.a, s.b, false).flags),
+        RegisterOp::Daa => Accumulator::A.result(s, decimal::daa(f, s.a)),
+        RegisterOp::Tab => Accumulator::B.result(s, loaded(f, s.a)),
+        RegisterOp::Tba => Accumulator::A.result(s, loaded(f, s.b)),
+        RegisterOp::Andcc => s.with_flags(codes::andcc(f, n)),
+        RegisterOp::Orcc => s.with_flags(codes::orcc(f, n)),
+        RegisterOp::TfrExg => transfers::transfer(s, n),
+        RegisterOp::Nop => s,
+    };
+    effect::quiet(after, cost)
+}
+
+// Between two entries of the table at the address `a`.
+fn between<T: Data + Width>(f: Flags, b: u8, m: &Memory, a: u16) -> Outcome<T>
+    ensures { result ≡ outcome_of T.of (lookup_of b (T.number (T.read_at m.now a)) (T.number (T.read_at m.now (plus_w a T.SIZE)))) (lookup_codes T.top f) }
+{
+    let y1 = T::read(m, a);
+    let y2 = T::read(m, word::plus(a, T::SIZE));
+    decimal::tbl(f, b, y1, y2)
 }
 
 // The two entries of the table are at the address `a`.
-pub fn look_up(s: State, m: &[u8], kind: u16, cost: u8, a: u16) -> Effect
-    requires { length m.now ≡ 65536 }
-    ensures { result ≡ quiet (looked_up kind s m.now a) cost }
+#[tactic(auto, unfolding(crate::specs::Lookups::looked_up))]
+pub fn look_up(s: State, m: &Memory, op: Lookup, cost: u8, a: u16) -> Effect
+    ensures { result ≡ quiet (looked_up (LookUp op) s m.now a) cost }
 {
-    effect::quiet(looked_up(kind, s, m, a), cost)
+    let after = match op {
+        Lookup::Tbl => Accumulator::A.result(s, between(s.flags, s.b, m, a)),
+        Lookup::Etbl => WordRegister::D.result(s, between(s.flags, s.b, m, a)),
+    };
+    effect::quiet(after, cost)
 }

@@ -8,9 +8,12 @@ use Rattle.memory.specs.Memory.{byte_at, store_byte}
 use Rattle.state.specs.declared.Flags.{Flags}
 use Rattle.state.specs.declared.State.{State}
 use Rattle.state.specs.State.{with_a, with_b, with_flags}
-use Rattle.opcodes.specs.Kind.{member_of, SUBA, CMPA, SBCA, ANDA, BITA, LDAA, EORA, ADCA, ORAA, NEG, COM, INC, DEC, LSR, ROL, ROR, ASR, ASL, CLR, TST}
-use Rattle.results.specs.declared.Byte.{Byte}
-use Rattle.results.specs.Results.{byte_of, result_codes}
+use Rattle.opcodes.specs.declared.kind.Kind.{Kind}
+use Rattle.opcodes.specs.declared.kind.Kind.TheVariants.{WithA, WithB, InA, InB}
+use Rattle.opcodes.specs.declared.kind.ByteOp.{ByteOp}
+use Rattle.opcodes.specs.declared.kind.Change.{Change}
+use Rattle.opcodes.specs.Kind.{member_of, same, SUBA, CMPA, SBCA, ANDA, BITA, LDAA, EORA, ADCA, ORAA, NEG, COM, INC, DEC, LSR, ROL, ROR, ASR, ASL, CLR, TST}
+use Rattle.results.specs.Results.{Byte, byte_of, result_codes}
 use Rattle.logic.specs.Logic.{and_byte, or_byte, eor_byte, com_byte, clr_byte, tst_byte}
 use Rattle.alu.specs.Alu.{add_byte, sub_byte, neg_byte, inc_byte, dec_byte}
 use Rattle.shift.specs.Shift.{lsr_byte, rol_byte, ror_byte, asr_byte, asl_byte}
@@ -18,6 +21,8 @@ use Rattle.operand.specs.Operand.{operand_place}
 use Rattle.decode.specs.declared.Decoded.{Decoded}
 use Rattle.effect.specs.declared.Effect.{Effect}
 use Rattle.effect.specs.Effect.{quiet, writes}
+use Rattle.execute8.specs.declared.Accumulator.{Accumulator}
+use Rattle.execute8.specs.declared.Accumulator.TheVariants.{A, B}
 
 -- a comparison, as CMPA (p. 6-60) and BITA (6-35): the codes of a result, and the register as it was
 abbrev pub keeping : ℕ → Byte → Byte
@@ -76,28 +81,45 @@ abbrev pub b_result : State → Byte → State
 b_result s r = with_flags (with_b s r.value) r.flags
 
 -- A with an operand, and B
-abbrev pub a_with : State → ℕ → ℕ → ℕ → Effect
+abbrev pub a_with : State → Kind → ℕ → ℕ → Effect
 a_with s kind v cost = quiet (a_result s (accumulated (member_of kind) s.flags s.a v)) cost
 
-abbrev pub b_with : State → ℕ → ℕ → ℕ → Effect
+abbrev pub b_with : State → Kind → ℕ → ℕ → Effect
 b_with s kind v cost = quiet (b_result s (accumulated (member_of kind) s.flags s.b v)) cost
 
 -- a byte v of memory, at the address a, is changed where it lies: NEG (p. 6-147), COM (6-62), INC (6-96), DEC (6-72), LSR (6-135),
 -- ROL (6-170), ROR (6-173), ASR (6-23), ASL (6-19), LSL (6-131), CLR (6-56); TST (6-206) only looks at it
-unfoldable pub memory_changed : State → ℕ → ℕ → ℕ → ℕ → Effect
+unfoldable pub memory_changed : State → Kind → ℕ → ℕ → ℕ → Effect
 memory_changed s kind v a cost =
     let r = changed (member_of kind) s.flags v in
-    pick (eqb kind TST) (quiet (with_flags s r.flags) cost) (writes (with_flags s r.flags) cost (store_byte a r.value))
+    pick (same kind TST) (quiet (with_flags s r.flags) cost) (writes (with_flags s r.flags) cost (store_byte a r.value))
 
 -- A is changed: NEGA (p. 6-148), COMA (6-63), INCA (6-97), DECA (6-73), LSRA (6-136), ROLA (6-171), RORA (6-174), ASRA (6-24),
 -- ASLA (6-20), LSLA (6-132), CLRA (6-57), TSTA (6-207)
-abbrev pub a_changed : State → ℕ → ℕ → Effect
+abbrev pub a_changed : State → Kind → ℕ → Effect
 a_changed s kind cost = quiet (a_result s (changed (member_of kind) s.flags s.a)) cost
 
 -- B is changed: NEGB (p. 6-149), COMB (6-64), INCB (6-98), DECB (6-74), LSRB (6-137), ROLB (6-172), RORB (6-175), ASRB (6-25),
 -- ASLB (6-21), LSLB (6-133), CLRB (6-58), TSTB (6-208)
-abbrev pub b_changed : State → ℕ → ℕ → Effect
+abbrev pub b_changed : State → Kind → ℕ → Effect
 b_changed s kind cost = quiet (b_result s (changed (member_of kind) s.flags s.b)) cost
+
+-- the register that the code names: what it holds, the state after a result in it, its instructions with an operand, and its changes
+abbrev pub accumulator_of : Accumulator → State → ℕ
+accumulator_of A s = s.a
+accumulator_of B s = s.b
+
+abbrev pub accumulator_result : Accumulator → State → Byte → State
+accumulator_result A s r = a_result s r
+accumulator_result B s r = b_result s r
+
+abbrev pub accumulator_with : Accumulator → State → ByteOp → ℕ → ℕ → Effect
+accumulator_with A s op v cost = a_with s (WithA op) v cost
+accumulator_with B s op v cost = b_with s (WithB op) v cost
+
+abbrev pub accumulator_changed : Accumulator → State → Change → ℕ → Effect
+accumulator_changed A s op cost = a_changed s (InA op) cost
+accumulator_changed B s op cost = b_changed s (InB op) cost
 
 -- the groups, each with its operand's place
 unfoldable pub with_a_effect : State → List ℕ → Decoded → Effect

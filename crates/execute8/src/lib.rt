@@ -3,129 +3,129 @@
 #![tactic(auto)]
 
 ghost use Rattle.std.specs.Prelude.{◌≡◌};
-ghost use Rattle.word.specs.Word.{pick};
-ghost use Rattle.execute8.specs.Bytes.{keeping as keeping_of, loaded_byte, accumulated as accumulated_of, changed as changed_of, a_result, b_result, a_with, b_with, memory_changed, a_changed, b_changed};
+ghost use Rattle.opcodes.specs.Kind.{byte_number, change_number};
+ghost use Rattle.opcodes.specs.declared.kind.Kind.TheVariants.{InMemory};
+ghost use Rattle.results.specs.Results.{result_codes};
+ghost use Rattle.execute8.specs.Bytes.{accumulator_of, accumulator_result, accumulator_with, accumulator_changed};
+ghost use Rattle.execute8.specs.Bytes.{keeping as keeping_of, accumulated as accumulated_of, changed as changed_of, memory_changed};
 
 use effect::Effect;
 use memory::Store;
-use opcodes::{kind, member};
-use results::Byte;
+use opcodes::kind::{ByteOp, Change};
+use results::{Byte, Outcome, Width};
 use state::{Flags, State};
+
+// The register of 8 bits that an instruction works on.
+#[derive(Clone, Copy)]
+pub enum Accumulator {
+    A,
+    B,
+}
+
+impl Accumulator {
+    fn of(self, s: State) -> u8
+        ensures { result ≡ accumulator_of self s }
+    {
+        match self {
+            Accumulator::A => s.a,
+            Accumulator::B => s.b,
+        }
+    }
+
+    pub fn result(self, s: State, r: Byte) -> State
+        ensures { result ≡ accumulator_result self s r }
+    {
+        let after = match self {
+            Accumulator::A => s.with_a(r.value),
+            Accumulator::B => s.with_b(r.value),
+        };
+        after.with_flags(r.flags)
+    }
+}
 
 // The codes of a comparison, with the register as it was.
 fn keeping(x: u8, r: Byte) -> Byte
     ensures { result ≡ keeping_of x r }
 {
-    let flags = r.flags;
-    Byte {
+    Outcome {
         value: x,
-        flags: flags,
+        flags: r.flags,
     }
 }
 
-pub fn loaded_byte(f: Flags, m: u8) -> Byte
-    ensures { result ≡ loaded_byte f m }
+// A byte or a word that is moved.
+pub fn loaded<W: Width>(f: Flags, m: W) -> Outcome<W>
+    ensures { result ≡ record { value = m; flags = result_codes W.top f (W.number m) } }
 {
-    let flags = results::result_8(f, m);
-    Byte {
+    Outcome {
         value: m,
-        flags: flags,
+        flags: results::result_codes(f, m),
     }
 }
 
-fn accumulated(member: u16, f: Flags, x: u8, m: u8) -> Byte
-    ensures { result ≡ accumulated_of member f x m }
+#[tactic(auto, unfolding(crate::specs::Bytes::accumulated))]
+fn accumulated(op: ByteOp, f: Flags, x: u8, m: u8) -> Byte
+    ensures { result ≡ accumulated_of (byte_number op) f x m }
 {
-    match member {
-        member::SUB => alu::sub_8(f, x, m, false),
-        member::CMP => keeping(x, alu::sub_8(f, x, m, false)),
-        member::SBC => alu::sub_8(f, x, m, f.c),
-        member::AND => logic::and_8(f, x, m),
-        member::BIT => keeping(x, logic::and_8(f, x, m)),
-        member::LD => loaded_byte(f, m),
-        member::EOR => logic::eor_8(f, x, m),
-        member::ADC => alu::add_8(f, x, m, f.c),
-        member::OR => logic::or_8(f, x, m),
-        _ => alu::add_8(f, x, m, false),
+    match op {
+        ByteOp::Sub => alu::sub(f, x, m, false),
+        ByteOp::Cmp => keeping(x, alu::sub(f, x, m, false)),
+        ByteOp::Sbc => alu::sub(f, x, m, f.c),
+        ByteOp::And => logic::and_8(f, x, m),
+        ByteOp::Bit => keeping(x, logic::and_8(f, x, m)),
+        ByteOp::Ld => loaded(f, m),
+        ByteOp::Eor => logic::eor_8(f, x, m),
+        ByteOp::Adc => alu::add_8(f, x, m, f.c),
+        ByteOp::Or => logic::or_8(f, x, m),
+        ByteOp::Add => alu::add_8(f, x, m, false),
     }
 }
 
-fn changed(member: u16, f: Flags, m: u8) -> Byte
-    ensures { result ≡ changed_of member f m }
+#[tactic(auto, unfolding(crate::specs::Bytes::changed))]
+fn changed(op: Change, f: Flags, m: u8) -> Byte
+    ensures { result ≡ changed_of (change_number op) f m }
 {
-    match member {
-        member::NEG => alu::neg(f, m),
-        member::COM => logic::com(f, m),
-        member::INC => alu::inc(f, m),
-        member::DEC => alu::dec(f, m),
-        member::LSR => shift::lsr(f, m),
-        member::ROL => shift::rol(f, m),
-        member::ROR => shift::ror(f, m),
-        member::ASR => shift::asr(f, m),
-        member::ASL => shift::asl(f, m),
-        member::CLR => logic::clr(f),
-        _ => logic::tst(f, m),
+    match op {
+        Change::Neg => alu::neg(f, m),
+        Change::Com => logic::com(f, m),
+        Change::Inc => alu::inc(f, m),
+        Change::Dec => alu::dec(f, m),
+        Change::Lsr => shift::lsr(f, m),
+        Change::Rol => shift::rol(f, m),
+        Change::Ror => shift::ror(f, m),
+        Change::Asr => shift::asr(f, m),
+        Change::Asl => shift::asl(f, m),
+        Change::Clr => logic::clr(f),
+        Change::Tst => logic::tst(f, m),
     }
 }
 
-pub fn a_result(s: State, r: Byte) -> State
-    ensures { result ≡ a_result s r }
+// SUBA to ADDB: A or B with the operand. One function for both, so that `accumulated` has one caller: the compiler then takes it into
+// the machine's loop (docs/SPEED.md).
+pub fn with_accumulator(x: Accumulator, s: State, op: ByteOp, v: u8, cost: u8) -> Effect
+    ensures { result ≡ accumulator_with x s op v cost }
 {
-    let flags = r.flags;
-    s.with_a(r.value).with_flags(flags)
-}
-
-pub fn b_result(s: State, r: Byte) -> State
-    ensures { result ≡ b_result s r }
-{
-    let flags = r.flags;
-    s.with_b(r.value).with_flags(flags)
-}
-
-// SUBA to ADDB: the operand with A, or with B where `second` says so. One function for both, so that `accumulated` has one caller: the
-// compiler then takes it into the machine's loop (docs/SPEED.md).
-pub fn with_accumulator(second: bool, s: State, kind: u16, v: u8, cost: u8) -> Effect
-    ensures { result ≡ pick second (b_with s kind v cost) (a_with s kind v cost) }
-{
-    let f = s.flags;
-    let member = opcodes::member_of(kind);
-    let mut x = s.a;
-    if second {
-        x = s.b;
-    }
-    let r = accumulated(member, f, x, v);
-    if second {
-        return effect::quiet(b_result(s, r), cost);
-    }
-    effect::quiet(a_result(s, r), cost)
+    let r = accumulated(op, s.flags, x.of(s), v);
+    effect::quiet(x.result(s, r), cost)
 }
 
 // `v` is the byte at the address `a`.
-pub fn in_memory(s: State, kind: u16, v: u8, a: u16, cost: u8) -> Effect
-    ensures { result ≡ memory_changed s kind v a cost }
+#[tactic(auto, unfolding(crate::specs::Bytes::memory_changed))]
+pub fn in_memory(s: State, op: Change, v: u8, a: u16, cost: u8) -> Effect
+    ensures { result ≡ memory_changed s (InMemory op) v a cost }
 {
-    let f = s.flags;
-    let r = changed(opcodes::member_of(kind), f, v);
-    let flags = r.flags;
-    let after = s.with_flags(flags);
-    if kind == kind::TST {
+    let r = changed(op, s.flags, v);
+    let after = s.with_flags(r.flags);
+    if matches!(op, Change::Tst) {
         return effect::quiet(after, cost);
     }
     effect::writes(after, cost, Store::byte(a, r.value))
 }
 
-pub fn in_a(s: State, kind: u16, cost: u8) -> Effect
-    ensures { result ≡ a_changed s kind cost }
+// NEGA to TSTB.
+pub fn in_accumulator(x: Accumulator, s: State, op: Change, cost: u8) -> Effect
+    ensures { result ≡ accumulator_changed x s op cost }
 {
-    let f = s.flags;
-    let r = changed(opcodes::member_of(kind), f, s.a);
-    effect::quiet(a_result(s, r), cost)
-}
-
-pub fn in_b(s: State, kind: u16, cost: u8) -> Effect
-    ensures { result ≡ b_changed s kind cost }
-{
-    let f = s.flags;
-    let r = changed(opcodes::member_of(kind), f, s.b);
-    effect::quiet(b_result(s, r), cost)
+    let r = changed(op, s.flags, x.of(s));
+    effect::quiet(x.result(s, r), cost)
 }

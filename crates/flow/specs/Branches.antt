@@ -5,11 +5,10 @@ use Rattle.word.specs.Word.{pick, plus_w, extend8, extend9, bit_of}
 use Rattle.memory.specs.Memory.{byte_at, word_at}
 use Rattle.state.specs.declared.State.{State}
 use Rattle.state.specs.State.{with_a, with_b, with_d, with_x, with_y, with_sp, with_pc, d_of}
+use Rattle.opcodes.specs.declared.kind.Kind.{Kind}
 use Rattle.opcodes.specs.Kind.{member_of}
 use Rattle.codes.specs.Conditions.{condition_of}
-use Rattle.codes.specs.declared.Count8.{Count8}
-use Rattle.codes.specs.declared.Count16.{Count16}
-use Rattle.codes.specs.Loops.{count_byte, count_word}
+use Rattle.codes.specs.Loops.{Count8, Count16, count_byte, count_word}
 use Rattle.decode.specs.declared.Decoded.{Decoded}
 use Rattle.effect.specs.declared.Effect.{Effect}
 use Rattle.effect.specs.Effect.{quiet}
@@ -19,14 +18,14 @@ abbrev pub branched : State → Bool → ℕ → ℕ → ℕ → Effect
 branched s taken offset cost untaken = pick taken (quiet (with_pc s (plus_w s.pc offset)) cost) (quiet s untaken)
 
 -- BRA (p. 6-44) to BLE (6-37), by the conditions of crate codes: n is an offset of 8 bits
-abbrev pub short_branched : State → ℕ → ℕ → ℕ → ℕ → Effect
+abbrev pub short_branched : State → Kind → ℕ → ℕ → ℕ → Effect
 short_branched s kind n cost untaken = branched s (condition_of s.flags (member_of kind)) (extend8 n) cost untaken
 
 unfoldable pub short_effect : State → List ℕ → Decoded → Effect
 short_effect s m d = short_branched s d.kind (byte_at m d.at) d.cost d.untaken
 
 -- LBRA (p. 6-118) to LBLE (6-111), by the same conditions: an offset of 16 bits
-abbrev pub long_branched : State → ℕ → ℕ → ℕ → ℕ → Effect
+abbrev pub long_branched : State → Kind → ℕ → ℕ → ℕ → Effect
 long_branched s kind offset cost untaken = branched s (condition_of s.flags (member_of kind)) offset cost untaken
 
 unfoldable pub long_effect : State → List ℕ → Decoded → Effect
@@ -53,6 +52,3 @@ looped counter s kind offset cost =
 -- the postbyte p, and the low byte b of the offset
 unfoldable pub loop_done : State → ℕ → ℕ → ℕ → Effect
 loop_done s p b cost = looped (p % 8) s (p / 32) (extend9 (bit_of 4 p) b) cost
-
-unfoldable pub loop_effect : State → List ℕ → Decoded → Effect
-loop_effect s m d = loop_done s (byte_at m d.at) (byte_at m (plus_w d.at 1)) d.cost

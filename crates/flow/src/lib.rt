@@ -2,15 +2,15 @@
 // machine's.
 #![tactic(auto)]
 
-ghost use Rattle.std.specs.Prelude.{◌≡◌, length};
-ghost use Rattle.decode.specs.Decode.{Faithful};
-ghost use Rattle.flow.specs.Branches.{branched as branched_of, short_branched, long_branched, byte_looped, word_looped, looped as looped_of, loop_done};
-ghost use Rattle.flow.specs.Control.{control_effect};
+ghost use Rattle.std.specs.Prelude.{◌≡◌};
+ghost use Rattle.memory.specs.Memory.{byte_at};
+ghost use Rattle.opcodes.specs.declared.kind.Kind.TheVariants.{ShortBranch, LongBranch, Control};
+ghost use Rattle.flow.specs.Branches.{branched as branched_of, short_branched, long_branched, looped as looped_of, loop_done};
+ghost use Rattle.flow.specs.Control.{control_done};
 
-use codes::{Count8, Count16};
-use decode::Decoded;
 use effect::Effect;
-use opcodes::kind;
+use memory::Memory;
+use opcodes::kind::{Condition, ControlOp};
 use state::State;
 
 pub fn branched(s: State, taken: bool, offset: u16, cost: u8, untaken: u8) -> Effect
@@ -23,66 +23,60 @@ pub fn branched(s: State, taken: bool, offset: u16, cost: u8, untaken: u8) -> Ef
 }
 
 // LBRA to LBLE.
-pub fn long_branch(s: State, kind: u16, offset: u16, cost: u8, untaken: u8) -> Effect
-    ensures { result ≡ long_branched s kind offset cost untaken }
+pub fn long_branch(s: State, condition: Condition, offset: u16, cost: u8, untaken: u8) -> Effect
+    ensures { result ≡ long_branched s (LongBranch condition) offset cost untaken }
 {
-    let f = s.flags;
-    let taken = codes::condition(f, opcodes::member_of(kind));
-    branched(s, taken, offset, cost, untaken)
+    branched(
+        s,
+        codes::condition(s.flags, condition),
+        offset,
+        cost,
+        untaken,
+    )
 }
 
 // BRA to BLE: a long branch's conditions, and an offset of 8 bits.
-pub fn short_branch(s: State, kind: u16, n: u8, cost: u8, untaken: u8) -> Effect
-    ensures { result ≡ short_branched s kind n cost untaken }
+pub fn short_branch(s: State, condition: Condition, n: u8, cost: u8, untaken: u8) -> Effect
+    ensures { result ≡ short_branched s (ShortBranch condition) n cost untaken }
 {
-    long_branch(s, kind, word::extend_8(n), cost, untaken)
-}
-
-fn byte_looped(s: State, offset: u16, cost: u8, t: Count8) -> Effect
-    ensures { result ≡ byte_looped s offset cost t }
-{
-    branched(s, t.taken, offset, cost, cost)
-}
-
-fn word_looped(s: State, offset: u16, cost: u8, t: Count16) -> Effect
-    ensures { result ≡ word_looped s offset cost t }
-{
-    branched(s, t.taken, offset, cost, cost)
+    long_branch(s, condition, word::extend(n), cost, untaken)
 }
 
 // The counter is A, B, D, X, Y or, for 7, SP.
+#[tactic(auto, unfolding(crate::specs::Branches::looped))]
 fn looped(counter: u8, s: State, kind: u8, offset: u16, cost: u8) -> Effect
     ensures { result ≡ looped_of counter s kind offset cost }
 {
     match counter {
         0 => {
-            let t = codes::count_8(kind, s.a);
-            byte_looped(s.with_a(t.counter), offset, cost, t)
+            let t = codes::count(kind, s.a);
+            branched(s.with_a(t.counter), t.taken, offset, cost, cost)
         }
         1 => {
-            let t = codes::count_8(kind, s.b);
-            byte_looped(s.with_b(t.counter), offset, cost, t)
+            let t = codes::count(kind, s.b);
+            branched(s.with_b(t.counter), t.taken, offset, cost, cost)
         }
         4 => {
-            let t = codes::count_16(kind, s.d());
-            word_looped(s.with_d(t.counter), offset, cost, t)
+            let t = codes::count(kind, s.d());
+            branched(s.with_d(t.counter), t.taken, offset, cost, cost)
         }
         5 => {
-            let t = codes::count_16(kind, s.x);
-            word_looped(s.with_x(t.counter), offset, cost, t)
+            let t = codes::count(kind, s.x);
+            branched(s.with_x(t.counter), t.taken, offset, cost, cost)
         }
         6 => {
-            let t = codes::count_16(kind, s.y);
-            word_looped(s.with_y(t.counter), offset, cost, t)
+            let t = codes::count(kind, s.y);
+            branched(s.with_y(t.counter), t.taken, offset, cost, cost)
         }
         _ => {
-            let t = codes::count_16(kind, s.sp);
-            word_looped(s.with_sp(t.counter), offset, cost, t)
+            let t = codes::count(kind, s.sp);
+            branched(s.with_sp(t.counter), t.taken, offset, cost, cost)
         }
     }
 }
 
 // A loop primitive by its postbyte and the low byte of its offset, whose sign is bit 4 of the postbyte.
+#[tactic(auto, unfolding(crate::specs::Branches::loop_done))]
 pub fn loop_primitive(s: State, p: u8, b: u8, cost: u8) -> Effect
     ensures { result ≡ loop_done s p b cost }
 {
@@ -90,22 +84,22 @@ pub fn loop_primitive(s: State, p: u8, b: u8, cost: u8) -> Effect
     looped(p % 8, s, p / 32, word::extend_9(sign, b), cost)
 }
 
-// BSR, RTS, WAI, and the last the loop primitives.
-pub fn control(s: State, m: &[u8], d: Decoded) -> Effect
-    requires m_len { length m.now ≡ 65536 }
-    requires faithful { Faithful m.now d }
-    ensures { result ≡ control_effect s m.now d }
+// BSR, RTS, WAI, and else the loop primitives; the postbyte stands at `at`.
+#[tactic(auto, unfolding(crate::specs::Control::control_done))]
+pub fn control(s: State, m: &Memory, op: ControlOp, at: u16, postbyte: u8, cost: u8) -> Effect
+    requires { postbyte ≡ byte_at m.now at }
+    ensures { result ≡ control_done (Control op) s m.now at cost }
 {
-    let kind = d.kind;
-    match kind {
-        kind::BSR => stack::subroutine(s, d.cost, word::plus(s.pc, word::extend_8(d.postbyte))),
-        kind::RTS => stack::returned(s, m, d.cost),
-        kind::WAI => frames::wait(s, d.cost),
-        _ => loop_primitive(
+    match op {
+        ControlOp::Bsr => stack::subroutine(s, cost, word::plus(s.pc, word::extend(postbyte))),
+        ControlOp::Rts => stack::returned(s, m, cost),
+        ControlOp::Wai => frames::wait(s, cost),
+        // SWI, TRAP and RTI are chosen before.
+        ControlOp::Swi | ControlOp::Trap | ControlOp::Rti | ControlOp::Loop => loop_primitive(
             s,
-            d.postbyte,
-            memory::read_byte(m, word::plus(d.at, 1)),
-            d.cost,
+            postbyte,
+            memory::read_byte(m, word::plus(at, 1)),
+            cost,
         ),
     }
 }

@@ -1,7 +1,10 @@
 -- The tests of what is lent to a door, and the numbers of its own refusals (docs/GUIDE-ABI.md).
-use Rattle.std.specs.Prelude.{ℕ, ◌%◌, Bool, true, ◌&&◌, List, [], ◌∷◌, eqb, ltb, length, drop}
+use Rattle.std.specs.Prelude.{ℕ, ◌%◌, Bool, List, eqb, ltb, length, drop, Result, Ok, Err}
+use Rattle.std.specs.List.{list_all}
 use Rattle.word.specs.Word.{pick}
 use Rattle.packing.specs.Bytes.{byte_in, record_size, waiting_place, reserved_place, packed_size}
+use Rattle.lent.specs.declared.LentError.{LentError}
+use Rattle.lent.specs.declared.LentError.TheVariants.{WrongLength, WrongFlag, WrongPacking, WrongReserved}
 
 -- the numbers of the door's own refusals: a state record of another length, a waiting flag neither 0 nor 1, a part of a record, and a
 -- reserved byte that is not 0
@@ -17,10 +20,20 @@ wrong_packing = 102
 abbrev pub wrong_reserved : ℕ
 wrong_reserved = 103
 
+abbrev pub error_number : LentError → ℕ
+error_number WrongLength = wrong_length
+error_number WrongFlag = wrong_flag
+error_number WrongPacking = wrong_packing
+error_number WrongReserved = wrong_reserved
+
+-- the number of what a test gives: that of its refusal, and 0 where it refuses nothing
+abbrev pub refusal_number : {A : Type 0} → Result A LentError → ℕ
+refusal_number (Ok a) = 0
+refusal_number (Err e) = error_number e
+
 -- every one of these bytes is 0
-unfoldable pub all_zero : List ℕ → Bool
-all_zero [] = true
-all_zero (b ∷ bytes) = eqb b 0 && all_zero bytes
+abbrev pub all_zero : List ℕ → Bool
+all_zero bytes = list_all (λ b. eqb b 0) bytes
 
 -- The tests of what is lent; 0 is no refusal. First the length of the state record, then its waiting flag, then its reserved bytes; and a
 -- packed schedule must not end within a record.

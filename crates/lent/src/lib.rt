@@ -1,67 +1,62 @@
-// The tests of what is lent to a door of the library: each gives the number of the first refusal, or 0 where there is none.
+// The tests of what is lent to a door of the library: each gives the first refusal, or hands on the state record that it found.
 #![tactic(auto)]
 
-ghost use Rattle.std.specs.Prelude.{◌≡◌, length, drop};
-ghost use Rattle.packing.specs.Bytes.{record_size, reserved_place};
-ghost use Rattle.lent.specs.Lent.{all_zero, length_refusal, record_refusal, lent_refusal};
+ghost use Rattle.std.specs.Prelude.{◌≡◌, IfOk};
+ghost use Rattle.lent.specs.Lent.{error_number, refusal_number, all_zero, length_refusal, record_refusal, lent_refusal};
 
-const WRONG_LENGTH: u32 = 100;
+use packing::{PACKED, RESERVED, STATE, WAITING};
 
-const WRONG_FLAG: u32 = 101;
-
-const WRONG_PACKING: u32 = 102;
-
-const WRONG_RESERVED: u32 = 103;
-
-pub fn length_refusal(r: &[u8]) -> u32
-    ensures { result ≡ length_refusal r.now }
-{
-    if r.len() == packing::STATE {
-        return 0;
-    }
-    WRONG_LENGTH
+// Why a door refuses what it is lent, each with the number that docs/GUIDE-ABI.md gives it.
+#[derive(Clone, Copy, Debug, PartialEq, Eq)]
+pub enum LentError {
+    WrongLength = 100,
+    WrongFlag = 101,
+    WrongPacking = 102,
+    WrongReserved = 103,
 }
 
-// Whether every reserved byte of a state record is 0.
-fn nothing_reserved(r: &[u8]) -> bool
-    requires { length r.now ≡ record_size }
-    ensures { result ≡ all_zero (drop reserved_place r.now) }
-{
-    let mut i = packing::RESERVED;
-    while i < packing::STATE {
-        if r[i] != 0 {
-            return false;
-        }
-        i += 1;
+impl LentError {
+    pub fn number(self) -> u32
+        ensures { result ≡ error_number self }
+    {
+        self as u32
     }
-    true
 }
 
-pub fn record_refusal(r: &[u8]) -> u32
-    ensures { result ≡ record_refusal r.now }
+pub fn check_length(r: &[u8]) -> Result<&[u8; STATE], LentError>
+    ensures number { refusal_number result ≡ length_refusal r.now }
+    ensures record { IfOk result (λ whole. whole.now ≡ r.now) }
 {
-    let refusal = length_refusal(r);
-    if refusal != 0 {
-        return refusal;
-    }
-    if r[packing::WAITING] > 1 {
-        return WRONG_FLAG;
-    }
-    if nothing_reserved(r) {
-        return 0;
-    }
-    WRONG_RESERVED
+    r.as_array().ok_or(LentError::WrongLength)
 }
 
-pub fn lent_refusal(r: &[u8], schedule: &[u8]) -> u32
-    ensures { result ≡ lent_refusal r.now schedule.now }
+fn all_zero(bytes: &[u8]) -> bool
+    ensures { result ≡ all_zero bytes.now }
 {
-    let refusal = record_refusal(r);
-    if refusal != 0 {
-        return refusal;
+    bytes.iter().all(|&b| b == 0)
+}
+
+pub fn check_record(r: &[u8]) -> Result<&[u8; STATE], LentError>
+    ensures number { refusal_number result ≡ record_refusal r.now }
+    ensures record { IfOk result (λ whole. whole.now ≡ r.now) }
+{
+    let record = check_length(r)?;
+    if record[WAITING] > 1 {
+        return Err(LentError::WrongFlag);
     }
-    if schedule.len() % packing::PACKED == 0 {
-        return 0;
+    if !all_zero(&record[RESERVED..]) {
+        return Err(LentError::WrongReserved);
     }
-    WRONG_PACKING
+    Ok(record)
+}
+
+pub fn check_lent<'a>(r: &'a [u8], schedule: &[u8]) -> Result<&'a [u8; STATE], LentError>
+    ensures number { refusal_number result ≡ lent_refusal r.now schedule.now }
+    ensures record { IfOk result (λ whole. whole.now ≡ r.now) }
+{
+    let record = check_record(r)?;
+    if schedule.len() % PACKED != 0 {
+        return Err(LentError::WrongPacking);
+    }
+    Ok(record)
 }

@@ -4,8 +4,7 @@ use Rattle.std.specs.Prelude.{ℕ, ◌-◌, Bool, true, false, eqb}
 use Rattle.std.specs.Int.Bits.{bit_and, bit_or, bit_xor}
 use Rattle.word.specs.Word.{bit_of}
 use Rattle.state.specs.declared.Flags.{Flags}
-use Rattle.results.specs.declared.Byte.{Byte}
-use Rattle.results.specs.Results.{byte_of, set_nzvc, result_codes}
+use Rattle.results.specs.Results.{Byte, byte_of, set_nzvc, result_codes}
 
 -- ANDA (p. 6-16), ANDB (6-17), BITA (6-35), BITB (6-36)
 abbrev pub and_byte : Flags → ℕ → ℕ → Byte

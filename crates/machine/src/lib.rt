@@ -5,33 +5,26 @@ ghost use Rattle.std.specs.Prelude.{◌≡◌};
 ghost use Rattle.machine.specs.Names.{number_of};
 ghost use Rattle.machine.specs.Reset.{reset_state, reset_reply, reset_of};
 
+use memory::Memory;
 use state::{Flags, State};
 
 // The replies of docs/MACHINE.md, "Numbered replies"; `number_of` in specs/Names.antt gives the number of each.
-#[derive(Clone, Copy)]
+#[derive(Clone, Copy, Debug, PartialEq, Eq)]
 pub enum Reply {
-    Done,
-    WrongMemory,
-    WrongSchedule,
-    PastLimit,
-    Stopped,
-    ReservedPostbyte,
-    WrongLine,
+    Done = 0,
+    WrongMemory = 1,
+    WrongSchedule = 2,
+    PastLimit = 3,
+    Stopped = 4,
+    ReservedPostbyte = 5,
+    WrongLine = 15,
 }
 
 impl Reply {
     pub fn number(self) -> u8
         ensures { result ≡ number_of self }
     {
-        match self {
-            Reply::Done => 0,
-            Reply::WrongMemory => 1,
-            Reply::WrongSchedule => 2,
-            Reply::PastLimit => 3,
-            Reply::Stopped => 4,
-            Reply::ReservedPostbyte => 5,
-            Reply::WrongLine => 15,
-        }
+        self as u8
     }
 }
 
@@ -40,6 +33,7 @@ pub struct Machine {
     pub state: State,
 }
 
+// What a reset leaves. A refused one leaves a machine too (`reset_of`): so the reply stands beside it, and this is no Result.
 #[derive(Clone, Copy)]
 pub struct Started {
     pub reply: Reply,
@@ -50,16 +44,13 @@ pub struct Started {
 fn after_reset(reply: Reply, pc: u16) -> Started
     ensures { (result.reply ≡ reply) × (result.machine.state ≡ reset_state pc) }
 {
-    let machine = Machine::new(pc);
     Started {
-        reply: reply,
-        machine: machine,
+        reply,
+        machine: Machine::new(pc),
     }
 }
 
 impl Machine {
-    pub const MEMORY: usize = 65536;
-
     pub const RECORDS: usize = 64;
 
     pub const BUDGET_LIMIT: u32 = 100000000;
@@ -76,8 +67,6 @@ impl Machine {
 
     pub const XIRQ_VECTOR: u16 = 0xFFF4;
 
-    pub const NO_LINE: u8 = 6;
-
     pub const ENTRY_COST: u8 = 9;
 
     pub const WAKE_COST: u8 = 6;
@@ -89,7 +78,7 @@ impl Machine {
     pub fn of(state: State) -> Self
         ensures { result.state ≡ state }
     {
-        Machine { state: state }
+        Machine { state }
     }
 
     // The state after a reset, with PC as given: S, X and I set, all else clear.
@@ -105,9 +94,9 @@ impl Machine {
     pub fn reset(m: &[u8]) -> Started
         ensures { (number_of result.reply ≡ reset_reply m.now) × (result.machine.state ≡ reset_of m.now) }
     {
-        if m.len() == Machine::MEMORY {
-            return after_reset(Reply::Done, memory::read_word(m, Machine::RESET_VECTOR));
-        }
-        after_reset(Reply::WrongMemory, 0)
+        let Ok(whole) = <&Memory>::try_from(m) else {
+            return after_reset(Reply::WrongMemory, 0);
+        };
+        after_reset(Reply::Done, memory::read_word(whole, Machine::RESET_VECTOR))
     }
 }

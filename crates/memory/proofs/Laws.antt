@@ -23,35 +23,16 @@ pub store_none : (m : List ℕ) → committed m no_store ≡ m
 unfolding store_all lowest_bytes
 store_none m = refl
 
--- What holds at each turn of the loop that stores a number: what is left to store gives the whole store.
-pub record Storing (m₀ : List ℕ) (start count number : ℕ) (m : List ℕ) (at left : ℕ) : Type 0 where
-  pub whole : length m ≡ 65536
-  pub inside : at < 65536
-  pub few : left ≤ 8
-  pub rest : store_all m at (lowest_bytes left number) ≡ store_all m₀ start (lowest_bytes count number)
-
+-- A run of which bytes are left goes on with its highest byte, and one of which none is left is stored.
 pub stored_one :
-    {m₀ : List ℕ} {start count number : ℕ} {m : List ℕ} {at left k : ℕ} →
-    left ≡ suc k →
-    Storing m₀ start count number m at left →
-    Storing m₀ start count number (set m at (nth_byte k number)) (plus_w at 1) k
+    {k j : ℕ} (m : List ℕ) (at number : ℕ) → k ≡ suc j →
+    store_all (set m at (nth_byte j number)) (plus_w at 1) (lowest_bytes j number) ≡ store_all m at (lowest_bytes k number)
 unfolding store_all lowest_bytes
-stored_one {number = number} {m = m} {at = at} e s =
-    record {
-      whole = simp length-set s.whole;
-      inside = omega arith;
-      few = omega (arith, e, s.few);
-      rest = sym (ap (λ left. store_all m at (lowest_bytes left number)) e) ∙ s.rest;
-    }
+stored_one m at number e = rw e
 
-pub stored_all :
-    {m₀ : List ℕ} {start count number : ℕ} {m : List ℕ} {at left : ℕ} →
-    Storing m₀ start count number m at left →
-    left ≤ 0 →
-    m ≡ store_all m₀ start (lowest_bytes count number)
+pub stored_all : {k : ℕ} (m : List ℕ) (at number : ℕ) → k ≡ 0 → store_all m at (lowest_bytes k number) ≡ m
 unfolding store_all lowest_bytes
-stored_all {left = zero} s h = s.rest
-stored_all {left = suc k} s h = absurd (omega (arith, h))
+stored_all m at number e = rw e
 
 -- a byte stored before others
 pub store_first : (m : List ℕ) (a b : ℕ) (bs : List ℕ) → store_all m a (b ∷ bs) ≡ store_all (set m a b) (plus_w a 1) bs

@@ -1,32 +1,54 @@
 -- The laws that the functions of src/reading.rt ask for, on the definitions alone. Assumes nothing.
 use Prim.Native.Nat.{ℕ, ◌+◌, ◌<◌, ◌≤◌}
+use native.Mathlib.Omega.{arith}
 use native.Mathlib.Numerals.{add-one}
-use mathlib.Core.Path.{◌≡◌}
-use mathlib.Core.Bool.{true, and-eq-true_iff}
+use mathlib.Core.Path.{◌≡◌, refl, ◌∙◌}
 use mathlib.Core.List.{List}
-use lib.Dec.{leb}
+use lib.Dec.{eqb, eqb→eq}
 use lib.ListN.{length, get_or, drop, drop_of_length-le}
 use lib.Seq.{drop-cons}
-use borrow.Author.Tests.{leb-true, eq-eqb, ne_eqb}
+use borrow.Author.Tests.{eq-eqb, ne_eqb}
+use Rattle.std.specs.Prelude.{Option, Some, None, SomeIff, min}
+use Rattle.std.specs.Char as char
+use Rattle.word.proofs.Table.{at_number}
+use Rattle.table.specs.declared.Table.{Table}
 use Rattle.migrate.specs.declared.reading.Part.{Part}
-use Rattle.migrate.specs.declared.reading.Part.TheVariants.{Nothing}
-use Rattle.migrate.specs.declared.reading.Lines.{Lines}
+use Rattle.migrate.specs.declared.reading.Part.TheVariants.{Nothing, Cycle, Space, Digit, Whole, Wrong}
 use Rattle.migrate.specs.declared.reading.Reading.{Reading}
-use Rattle.migrate.specs.Format.{within}
+use Rattle.migrate.specs.Format.{digit_value}
 use Rattle.migrate.specs.Reading.{grown, with_line, reading_is, with_byte, read_on}
 
--- a byte within a range is not below its first
-pub above : (low high b : ℕ) → within low high b ≡ true → low ≤ b
-above low high b inside = leb-true low b ((and-eq-true_iff (leb low b) (leb b high)).0 inside).0
+-- the digits up to 16 are those of the library, which goes on to 36
+fewer_digits : (b : ℕ) → b < 256 → digit_value b ≡ min (char.digit_value b) 16
+unfolding digit_value
+fewer_digits b byte =
+    eqb→eq (digit_value b) (min (char.digit_value b) 16)
+    (at_number (λ (k : ℕ). eqb (digit_value k) (min (char.digit_value k) 16)) 256 tt b byte)
+
+pub digit_is : (b : ℕ) → b < 256 → (found : Option ℕ) → SomeIff found (char.digit_value b < 16) (char.digit_value b)
+    → SomeIff found (digit_value b < 16) (digit_value b)
+digit_is b byte None none = rw (fewer_digits b byte) (λ h. none (omega (arith, h)))
+digit_is b byte (Some d) some = rw (fewer_digits b byte) (omega (arith, some.0), some.1 ∙ omega (arith, some.0))
+
+-- a part that can grow no more
+pub at_its_end : (p : Part) (b : ℕ) → (p ≡ Nothing → ⊥) → ((cycle : ℕ) → p ≡ Cycle cycle → ⊥) → ((cycle : ℕ) → p ≡ Space cycle → ⊥)
+    → ((cycle first : ℕ) → p ≡ Digit cycle first → ⊥) → Wrong ≡ grown p b
+unfolding grown
+at_its_end Nothing b nothing cycle space digit = absurd (nothing refl)
+at_its_end (Cycle n) b nothing cycle space digit = absurd (cycle n refl)
+at_its_end (Space n) b nothing cycle space digit = absurd (space n refl)
+at_its_end (Digit n first) b nothing cycle space digit = absurd (digit n first refl)
+at_its_end (Whole n line) b nothing cycle space digit = refl
+at_its_end Wrong b nothing cycle space digit = refl
 
 -- a byte that ends a line, and any other
-pub line_ends : (done : Lines) (part : Part) (b : ℕ) (done' : Lines) (part' : Part) → b ≡ 10 → done' ≡ with_line done part → part' ≡ Nothing
-    → reading_is done' part' ≡ with_byte done part b
-line_ends done part b done' part' end d p = rw (eq-eqb b 10 end, d, p)
+pub line_ends : (lines : Option Table) (part : Part) (b : ℕ) (lines' : Option Table) (part' : Part) → b ≡ 10 → lines' ≡ with_line lines part → part' ≡ Nothing
+    → reading_is lines' part' ≡ with_byte lines part b
+line_ends lines part b lines' part' end d p = rw (eq-eqb b 10 end, d, p)
 
-pub line_goes_on : (done : Lines) (part : Part) (b : ℕ) (done' : Lines) (part' : Part) → (b ≡ 10 → ⊥) → done' ≡ done → part' ≡ grown part b
-    → reading_is done' part' ≡ with_byte done part b
-line_goes_on done part b done' part' other d p = rw (ne_eqb b 10 other, d, p)
+pub line_goes_on : (lines : Option Table) (part : Part) (b : ℕ) (lines' : Option Table) (part' : Part) → (b ≡ 10 → ⊥) → lines' ≡ lines → part' ≡ grown part b
+    → reading_is lines' part' ≡ with_byte lines part b
+line_goes_on lines part b lines' part' other d p = rw (ne_eqb b 10 other, d, p)
 
 -- one turn of a loop over a text, and its end
 pub one_read : (s t whole : Reading) (text : List ℕ) (i : ℕ) → i < length text → read_on s (drop i text) ≡ whole

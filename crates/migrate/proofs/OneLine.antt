@@ -8,14 +8,15 @@ use mathlib.Core.List.{List, [], ◌∷◌}
 use lib.Dec.{leb, eqb}
 use lib.ListN.{length}
 use borrow.Author.Tests.{ltb-true, leb-true, leb-false, le-leb, lt-leb, ne_eqb}
+use Rattle.std.specs.Prelude.{Option, None, option_map}
 use Rattle.word.specs.Word.{pick}
 use Rattle.table.specs.declared.Record.{Record}
+use Rattle.table.specs.declared.Table.{Table}
 use Rattle.table.specs.Records.{record_is, with_record}
 use Rattle.migrate.specs.declared.reading.Part.{Part}
 use Rattle.migrate.specs.declared.reading.Part.TheVariants.{Nothing, Cycle, Space, Digit, Whole, Wrong}
-use Rattle.migrate.specs.declared.reading.Lines.{Lines}
 use Rattle.migrate.specs.Format.{digit_value, is_decimal, is_hex, front, rest, not_empty, spelled_after, last_cycle, is_end, end_byte, good_line, record_of}
-use Rattle.migrate.specs.Reading.{longer, grown, lines_are, with_line}
+use Rattle.migrate.specs.Reading.{longer, grown, with_line}
 
 -- the part of a line with these bytes more
 unfoldable pub scanned : Part → List ℕ → Part
@@ -126,17 +127,17 @@ scans (b ∷ bs) = go (is_decimal b)
     go false = rw (wrong_stays bs)
 
 -- the finished lines with a part that fits
-fitted : (done : Lines) (good : Bool) (r : Record) (p : Part) → Fits good r p
-    → with_line done p ≡ pick good (lines_are done.good (with_record done.table r)) (lines_are false done.table)
-fitted done true r p whole = rw whole
-fitted done false r Nothing other = refl
-fitted done false r (Cycle cycle) other = refl
-fitted done false r (Space cycle) other = refl
-fitted done false r (Digit cycle first) other = refl
-fitted done false r (Whole cycle line) other = absurd (false≢true (sym other))
-fitted done false r Wrong other = refl
+fitted : (lines : Option Table) (good : Bool) (r : Record) (p : Part) → Fits good r p
+    → with_line lines p ≡ pick good (option_map (λ t. with_record t r) lines) None
+fitted lines true r p whole = rw whole
+fitted lines false r Nothing other = refl
+fitted lines false r (Cycle cycle) other = refl
+fitted lines false r (Space cycle) other = refl
+fitted lines false r (Digit cycle first) other = refl
+fitted lines false r (Whole cycle line) other = absurd (false≢true (sym other))
+fitted lines false r Wrong other = refl
 
 -- a line more: its record where it is good
-pub one_line : (done : Lines) (l : List ℕ)
-    → with_line done (scanned Nothing l) ≡ pick (good_line l) (lines_are done.good (with_record done.table (record_of l))) (lines_are false done.table)
-one_line done l = fitted done (good_line l) (record_of l) (scanned Nothing l) (scans l)
+pub one_line : (lines : Option Table) (l : List ℕ)
+    → with_line lines (scanned Nothing l) ≡ pick (good_line l) (option_map (λ t. with_record t (record_of l)) lines) None
+one_line lines l = fitted lines (good_line l) (record_of l) (scanned Nothing l) (scans l)

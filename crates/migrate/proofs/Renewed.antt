@@ -2,13 +2,11 @@
 use Prim.Native.Nat.{ℕ, zero, suc, ◌+◌, ◌-◌, ◌/◌, ◌%◌, ◌<◌, ◌≤◌}
 use native.Mathlib.Omega.{arith}
 use native.Mathlib.Nat.{mod-lt, mod-eq_of_lt}
-use native.Mathlib.Numerals.{add-one}
 use mathlib.Core.Path.{◌≡◌, refl, sym, ◌∙◌, ap, subst}
 use mathlib.Core.Bool.{Bool, true, false, not, ◌&&◌}
 use mathlib.Core.List.{List, [], ◌∷◌, ◌++◌, append_assoc, append-nil, map}
 use lib.Dec.{ltb, eqb}
-use lib.ListN.{length, take, length-append, length-set, length-map}
-use lib.Seq.{take-suc-set}
+use lib.ListN.{length, length-append, length-map}
 use borrow.Author.Tests.{lt-ltb, eqb-true, eq-eqb}
 use Rattle.word.specs.Word.{pick, bit_of}
 use Rattle.word.proofs.Table.{same, same_is, every_below, at_number}
@@ -45,27 +43,25 @@ unfolding joined
 joined_one [] t = append-nil (written t)
 joined_one (u ∷ ts) t = ap (λ (l : List ℕ). written u ++ l) (joined_one ts t) ∙ sym (append_assoc (written u) (joined ts) (written t))
 
--- a page that has all its places, of which some are free
-pub record Sound (p : Page) (free : ℕ) : Type 0 where
-  pub long : length p.lines ≡ room
-  pub within : p.count + free ≤ room
+-- a page of which so many places are free
+abbrev pub Sound : Page → ℕ → Type 0
+Sound p free = length p.lines.items + free ≤ room
 
 -- one line more on a page
 pub record Longer (p : Page) (bs : List ℕ) (free : ℕ) (q : Page) : Type 0 where
   pub sound : Sound q free
-  pub count : q.count ≡ p.count + 1
+  pub count : length q.lines.items ≡ length p.lines.items + 1
   pub text : page_text q ≡ page_text p ++ bs
 
 pub one_put : (p : Page) (bs : List ℕ) (free : ℕ) → length bs ≤ 80 → Sound p (suc free) → Longer p bs free (with_text p (text_of bs))
 one_put p bs free short s =
-    let inside : p.count < room = omega (arith, s.within) in
     let line = text_of bs in
-    rw (lt-ltb p.count room inside)
+    let more : length (p.lines.items ++ line ∷ []) ≡ length p.lines.items + 1 = length-append p.lines.items (line ∷ []) in
+    rw (lt-ltb (length p.lines.items) room (omega (arith, s)))
     (record {
-      sound = record { long = length-set p.lines p.count line ∙ s.long; within = omega (arith, s.within) };
-      count = refl;
-      text =
-          rw (add-one p.count, take-suc-set p.lines p.count line (omega (arith, s.long, inside)), joined_one (take p.count p.lines) line, text_is bs short);
+      sound = omega (arith, s, more);
+      count = more;
+      text = rw (joined_one p.lines.items line, text_is bs short);
     })
 
 -- so many digits, and no more
@@ -91,7 +87,7 @@ counts_short altered removed few less =
 -- a page with the lines of the records that are kept
 pub record Kept (p : Page) (rs : List Record) (free : ℕ) (q : Page) : Type 0 where
   pub sound : Sound q free
-  pub count : q.count ≡ p.count + length rs
+  pub count : length q.lines.items ≡ length p.lines.items + length rs
   pub text : page_text q ≡ page_text p ++ printed rs
 
 pub keeps : (p : Page) (last : ℕ) (rs : List Record) (free : ℕ) → Sound p (length rs + free)
@@ -99,7 +95,7 @@ pub keeps : (p : Page) (last : ℕ) (rs : List Record) (free : ℕ) → Sound p 
 unfolding with_kept kept_after printed
 keeps p last [] free s =
     record {
-      sound = record { long = s.long; within = omega (arith, s.within) };
+      sound = omega (arith, s);
       count = omega arith;
       text = sym (append-nil (page_text p));
     }
@@ -110,9 +106,9 @@ keeps p last (r ∷ rs) free s = go (eqb (cleared_byte r.line) last) (λ q. keep
         ((q : Page) → Sound q (length rs + free) → Kept q (kept_after (cleared_byte r.line) (map cleared rs)) free (with_kept q (cleared_byte r.line) rs)) →
         Kept p (pick same (kept_after (cleared_byte r.line) (map cleared rs)) (cleared r ∷ kept_after (cleared_byte r.line) (map cleared rs))) free
         (with_kept (pick same p (with_text p (text_of (record_line (cleared r))))) (cleared_byte r.line) rs)
-    go true onward = onward p (record { long = s.long; within = omega (arith, s.within) })
+    go true onward = onward p (omega (arith, s))
     go false onward =
-        let line = one_put p (record_line (cleared r)) (length rs + free) (record_short (cleared r)) (record { long = s.long; within = omega (arith, s.within) }) in
+        let line = one_put p (record_line (cleared r)) (length rs + free) (record_short (cleared r)) (omega (arith, s)) in
         let rest = onward (with_text p (text_of (record_line (cleared r)))) line.sound in
         record {
           sound = rest.sound;
@@ -161,37 +157,35 @@ paired_records (r ∷ rs) = ap (λ (m : List Record). r ∷ m) (paired_records r
 -- the page of a schedule, before its last line and with it
 module _ (cs ls : List ℕ) (same : length cs ≡ length ls) (few : length cs ≤ record_limit) where
   kept_page : Kept empty_page (kept (map cleared (paired cs ls))) 1 (with_kept empty_page 0 (paired cs ls))
-  unfolding empty_page
   kept_page =
-      keeps empty_page 0 (paired cs ls) 1 (record { long = refl; within = omega (arith, paired_length cs ls same, few) })
+      keeps empty_page 0 (paired cs ls) 1 (omega (arith, paired_length cs ls same, few))
 
-  pub page_count : (with_kept empty_page 0 (paired cs ls)).count ≡ length (kept (map cleared (paired cs ls)))
-  unfolding empty_page
+  pub page_count : length (with_kept empty_page 0 (paired cs ls)).lines.items ≡ length (kept (map cleared (paired cs ls)))
   page_count = kept_page.count ∙ omega arith
 
   kept_within : length (kept (map cleared (paired cs ls))) ≤ length cs
   kept_within =
       omega (arith, kept_few 0 (map cleared (paired cs ls)), length-map (paired cs ls) cleared, paired_length cs ls same)
 
-  pub page_within : (p : Page) → p ≡ with_kept empty_page 0 (paired cs ls) → p.count ≤ length cs
+  pub page_within : (p : Page) → p ≡ with_kept empty_page 0 (paired cs ls) → length p.lines.items ≤ length cs
   page_within p is = rw (is, page_count) kept_within
 
   pub renewed_page : (p q : Page) (t : Text) (a : ℕ) → p ≡ with_kept empty_page 0 (paired cs ls) → a ≡ altered_count ls
-      → t ≡ text_of (counts_line a (length cs - p.count)) → q ≡ with_text p t → page_text q ≡ renewed (paired cs ls)
-  unfolding empty_page joined
+      → t ≡ text_of (counts_line a (length cs - length p.lines.items)) → q ≡ with_text p t → page_text q ≡ renewed (paired cs ls)
+  unfolding joined
   renewed_page p q t a is counted text put =
       let removed = length cs - length (kept (map cleared (paired cs ls))) in
       let short = counts_short (altered_count ls) removed (omega (arith, altered_few ls)) (omega arith) in
       let last = one_put (with_kept empty_page 0 (paired cs ls)) (counts_line (altered_count ls) removed) 0 short kept_page.sound in
-      let fewer : length cs - p.count ≡ removed = ap (λ (n : ℕ). length cs - n) (ap (λ (x : Page). x.count) is ∙ page_count) in
+      let fewer : length cs - length p.lines.items ≡ removed = ap (λ (n : ℕ). length cs - n) (ap (λ (x : Page). length x.lines.items) is ∙ page_count) in
       let line : t ≡ text_of (counts_line (altered_count ls) removed) = rw (text, counted, fewer) in
       rw (put, line, is) (last.text ∙ rw (kept_page.text, paired_lines cs ls same, paired_length cs ls same))
 
 -- the page of one line
 pub one_line_page : (p q : Page) (t : Text) (bs : List ℕ) → length bs ≤ 80 → p ≡ empty_page → t ≡ text_of bs → q ≡ with_text p t → page_text q ≡ bs
-unfolding empty_page joined
+unfolding joined
 one_line_page p q t bs short empty text put =
-    rw (put, text, empty) (one_put empty_page bs 0 short (record { long = refl; within = omega arith })).text
+    rw (put, text, empty) (one_put empty_page bs 0 short (omega arith)).text
 
 -- what is cleared stays so
 clear_again : (b : ℕ) → cleared_byte (cleared_byte b) ≡ cleared_byte b

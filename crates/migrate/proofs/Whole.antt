@@ -15,7 +15,6 @@ use Rattle.table.specs.declared.Record.{Record}
 use Rattle.table.specs.Records.{cycles_of, lines_of, room, table_cycles, table_lines, no_records, gathered}
 use Rattle.table.proofs.Laws.{holds_first}
 use Rattle.text.specs.Text.{ascii}
-use Rattle.migrate.specs.declared.reading.Lines.{Lines}
 use Rattle.migrate.specs.declared.reading.Reading.{Reading}
 use Rattle.migrate.specs.Format.{text_lines, good_lines, record_of}
 use Rattle.migrate.specs.Migrated.{renewed, migrated_lines, migrated}
@@ -25,7 +24,7 @@ use Rattle.migrate.proofs.AllLines.{lines_read, lines_of_text, gives}
 use Rattle.migrate.proofs.Renewed.{paired_records}
 
 -- a schedule of too many records is refused
-too_many : (cs ls : List ℕ) → record_limit < length cs → answer_to true cs ls ≡ ascii "bad\n"
+too_many : (cs ls : List ℕ) → record_limit < length cs → answer_to cs ls ≡ ascii "bad\n"
 too_many cs ls more = go (accepted record_limit cs ls) (accepted_few record_limit cs ls)
   where
     go : (good : Bool) → (good ≡ true → length cs ≤ record_limit) → pick good (renewed (paired cs ls)) (ascii "bad\n") ≡ ascii "bad\n"
@@ -33,16 +32,16 @@ too_many cs ls more = go (accepted record_limit cs ls) (accepted_few record_limi
     go false few = refl
 
 -- so the numbers that a table has room for stand for all
-first_enough : (cs ls : List ℕ) → length cs ≡ length ls → answer_to true (take room cs) (take room ls) ≡ answer_to true cs ls
+first_enough : (cs ls : List ℕ) → length cs ≡ length ls → answer_to (take room cs) (take room ls) ≡ answer_to cs ls
 first_enough cs ls same = go (dec_le (length cs) room)
   where
-    go : Dec (length cs ≤ room) → answer_to true (take room cs) (take room ls) ≡ answer_to true cs ls
+    go : Dec (length cs ≤ room) → answer_to (take room cs) (take room ls) ≡ answer_to cs ls
     go (yes fits) = rw (take_all room cs fits, take_all room ls (omega (arith, fits, same)))
     go (no more) =
         too_many (take room cs) (take room ls) (simp length-take (omega (arith, more))) ∙ sym (too_many cs ls (omega (arith, more)))
 
 table_answers : (rs : List Record)
-    → answer_to true (table_cycles (gathered no_records rs)) (table_lines (gathered no_records rs))
+    → answer_to (table_cycles (gathered no_records rs)) (table_lines (gathered no_records rs))
     ≡ pick (accepted record_limit (cycles_of rs) (lines_of rs)) (renewed rs) (ascii "bad\n")
 table_answers rs =
     let held = holds_first rs in
@@ -52,14 +51,12 @@ table_answers rs =
 
 -- what is answered to the lines of a text
 lines_answer : (ls : List (List ℕ)) → answer_of (lines_read (lines_are true no_records) ls) ≡ migrated_lines ls
-lines_answer ls =
-    let given = gives (lines_are true no_records) ls in
-    go (lines_read (lines_are true no_records) ls) (good_lines ls) given.good given.table
+lines_answer ls = rw (gives no_records ls) (go (good_lines ls))
   where
-    go : (all : Lines) (good : Bool) → all.good ≡ good → (good ≡ true → all.table ≡ gathered no_records (map record_of ls))
-        → answer_of all ≡ pick (good && accepted record_limit (cycles_of (map record_of ls)) (lines_of (map record_of ls))) (renewed (map record_of ls)) (ascii "bad\n")
-    go all true are table = rw (are, table refl) (table_answers (map record_of ls))
-    go all false are table = rw are
+    go : (good : Bool) → answer_of (lines_are good (gathered no_records (map record_of ls)))
+        ≡ pick (good && accepted record_limit (cycles_of (map record_of ls)) (lines_of (map record_of ls))) (renewed (map record_of ls)) (ascii "bad\n")
+    go true = table_answers (map record_of ls)
+    go false = refl
 
 migrates : (text : List ℕ) → answer_of (finished (read_on begun text)) ≡ migrated text
 unfolding migrated

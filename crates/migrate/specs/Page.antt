@@ -1,14 +1,15 @@
 -- Inner definitions: the page that the program prints, and how its lines are put on it.
-use Rattle.std.specs.Prelude.{ℕ, ◌+◌, ◌≡◌, Bool, ◌&&◌, List, [], ◌∷◌, ◌++◌, ltb, eqb, take, set, replicate}
+use Rattle.std.specs.Prelude.{ℕ, ◌≡◌, Option, Some, None, List, [], ◌∷◌, ◌++◌, ltb, eqb}
 use Rattle.word.specs.Word.{pick}
 use Rattle.schedule.specs.Schedule.{accepted}
 use Rattle.machine.specs.Names.{record_limit}
 use Rattle.table.specs.declared.Record.{Record}
+use Rattle.table.specs.declared.Table.{Table}
 use Rattle.table.specs.Records.{record_is, room, table_cycles, table_lines}
 use Rattle.text.specs.declared.Text.{Text}
 use Rattle.text.specs.Text.{ascii, blank, written, with_bytes}
+use Rattle.arrayvec.specs.ArrayVec.{array_vec_len}
 use Rattle.migrate.specs.declared.page.Page.{Page}
-use Rattle.migrate.specs.declared.reading.Lines.{Lines}
 use Rattle.migrate.specs.declared.reading.Reading.{Reading}
 use Rattle.migrate.specs.Migrated.{cleared_byte, record_line, renewed, migrated}
 use Rattle.migrate.specs.Reading.{begun, read_on, finished}
@@ -20,14 +21,14 @@ joined (t ∷ ts) = written t ++ joined ts
 
 -- what is written on a page
 abbrev pub page_text : Page → List ℕ
-page_text p = joined (take p.count p.lines)
+page_text p = joined p.lines.items
 
-unfoldable pub empty_page : Page
-empty_page = record { lines = replicate room blank; count = 0 }
+abbrev pub empty_page : Page
+empty_page = record { lines = record { items = [] } }
 
 -- a page with one line more, where it has room for it
 abbrev pub with_text : Page → Text → Page
-with_text p t = pick (ltb p.count room) (record { lines = set p.lines p.count t; count = p.count + 1 }) p
+with_text p t = pick (ltb (array_vec_len p.lines) room) (record { lines = record { items = p.lines.items ++ t ∷ [] } }) p
 
 -- a text of these bytes
 abbrev pub text_of : List ℕ → Text
@@ -50,13 +51,13 @@ with_kept p last (r ∷ rs) =
     with_kept (with_record_line p last (record_is r.cycle (cleared_byte r.line))) (cleared_byte r.line) rs
 
 -- what is printed for two lists of numbers
-abbrev pub answer_to : Bool → List ℕ → List ℕ → List ℕ
-answer_to good cycles lines =
-    pick (good && accepted record_limit cycles lines) (renewed (paired cycles lines)) (ascii "bad\n")
+abbrev pub answer_to : List ℕ → List ℕ → List ℕ
+answer_to cycles lines = pick (accepted record_limit cycles lines) (renewed (paired cycles lines)) (ascii "bad\n")
 
 -- and for finished lines
-abbrev pub answer_of : Lines → List ℕ
-answer_of done = answer_to done.good (table_cycles done.table) (table_lines done.table)
+abbrev pub answer_of : Option Table → List ℕ
+answer_of None = ascii "bad\n"
+answer_of (Some t) = answer_to (table_cycles t) (table_lines t)
 
 -- What is printed for a text of which one part was read and another is left. Where this reading is what a first part of a text leaves, as
 -- every reading is that the program comes to, it is what the whole text is migrated to; with no first part the rest is that text. Of any

@@ -1,12 +1,11 @@
 -- Inner definitions: how the program reads a text byte by byte, with no more of it in hand than the part of a line that it stands in. What
 -- it reads this way is what specs/Format.antt says, by the laws of proofs/.
-use Rattle.std.specs.Prelude.{ℕ, ◌+◌, ◌*◌, ◌%◌, Bool, true, false, ◌≡◌, List, [], ◌∷◌, ◌++◌, leb, ltb, eqb}
+use Rattle.std.specs.Prelude.{ℕ, ◌+◌, ◌*◌, ◌%◌, Bool, true, false, ◌≡◌, List, [], ◌∷◌, ◌++◌, leb, ltb, eqb, Option, Some, None, option_map}
 use Rattle.word.specs.Word.{pick}
 use Rattle.table.specs.declared.Table.{Table}
 use Rattle.table.specs.Records.{record_is, no_records, with_record}
 use Rattle.migrate.specs.declared.reading.Part.{Part}
 use Rattle.migrate.specs.declared.reading.Part.TheVariants.{Nothing, Cycle, Space, Digit, Whole, Wrong}
-use Rattle.migrate.specs.declared.reading.Lines.{Lines}
 use Rattle.migrate.specs.declared.reading.Reading.{Reading}
 use Rattle.migrate.specs.Format.{digit_value, last_cycle}
 
@@ -47,27 +46,28 @@ is_nothing (Digit cycle first) = false
 is_nothing (Whole cycle line) = false
 is_nothing Wrong = false
 
--- the finished lines with one more
-abbrev pub lines_are : Bool → Table → Lines
-lines_are good table = record { good = good; table = table }
+-- the finished lines: the table of their records where all are good
+abbrev pub lines_are : Bool → Table → Option Table
+lines_are good table = pick good (Some table) None
 
-abbrev pub with_line : Lines → Part → Lines
-with_line done Nothing = lines_are false done.table
-with_line done (Cycle cycle) = lines_are false done.table
-with_line done (Space cycle) = lines_are false done.table
-with_line done (Digit cycle first) = lines_are false done.table
-with_line done (Whole cycle line) = lines_are done.good (with_record done.table (record_is cycle line))
-with_line done Wrong = lines_are false done.table
+-- and with one more
+abbrev pub with_line : Option Table → Part → Option Table
+with_line lines Nothing = None
+with_line lines (Cycle cycle) = None
+with_line lines (Space cycle) = None
+with_line lines (Digit cycle first) = None
+with_line lines (Whole cycle line) = option_map (λ t. with_record t (record_is cycle line)) lines
+with_line lines Wrong = None
 
 -- where a reading stands: the finished lines, and the part of the next
-abbrev pub reading_is : Lines → Part → Reading
+abbrev pub reading_is : Option Table → Part → Reading
 reading_is done part = record { done = done; part = part }
 
 abbrev pub begun : Reading
 begun = reading_is (lines_are true no_records) Nothing
 
 -- a byte read
-abbrev pub with_byte : Lines → Part → ℕ → Reading
+abbrev pub with_byte : Option Table → Part → ℕ → Reading
 with_byte done part b = pick (eqb b 10) (reading_is (with_line done part) Nothing) (reading_is done (grown part b))
 
 -- bytes read one after another
@@ -84,5 +84,5 @@ abbrev pub spoiled_is : Reading → Reading
 spoiled_is s = reading_is s.done Wrong
 
 -- the text ends, and its last line, if a part of it is read
-abbrev pub finished : Reading → Lines
+abbrev pub finished : Reading → Option Table
 finished s = pick (is_nothing s.part) s.done (with_line s.done s.part)

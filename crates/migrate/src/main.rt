@@ -10,93 +10,62 @@ ghost use Rattle.migrate.specs.Page.{page_text, answer_to, answer_of, Answers};
 
 use machine::Machine;
 use page::Page;
-use reading::{Lines, Reading};
+use reading::Reading;
 use std::io;
 use std::io::Read;
+use table::Table;
 
-// What is printed for the records of good lines, or where a line is not good.
-fn answer_to(good: bool, cycles: &[u32], lines: &[u8]) -> Page
-    ensures { page_text result ≡ answer_to good cycles.now lines.now }
+// What is printed for the records of good lines.
+fn answer_to(cycles: &[u32], lines: &[u8]) -> Page
+    ensures { page_text result ≡ answer_to cycles.now lines.now }
 {
-    if good & schedule::accepted(cycles, lines, Machine::RECORDS) {
+    if schedule::accepted(cycles, lines, Machine::RECORDS) {
         return page::renewed(cycles, lines);
     }
     page::bad()
 }
 
-fn answer(done: Lines) -> Page
+fn answer(done: Option<Table>) -> Page
     ensures { page_text result ≡ answer_of done }
 {
-    let t = done.table;
+    let Some(t) = done else {
+        return page::bad();
+    };
     let n = table::held(t.count);
-    let cycles = t.cycles;
-    let lines = t.lines;
-    answer_to(done.good, &cycles[..n], &lines[..n])
+    answer_to(&t.cycles[..n], &t.lines[..n])
 }
 
 // What is printed for a text of which `before` is what was read so far, and `rest` what is left: with `begin()` the rest is all of it.
 fn migrate(before: Reading, rest: &[u8]) -> Page
     ensures { Answers before rest.now (page_text result) }
 {
-    let s = reading::read(before, rest);
-    answer(reading::finish(s))
-}
-
-// A part of the input: the first `n` bytes are read, and at its end none. None are where a read fails, too.
-#[derive(Drop)]
-struct Chunk {
-    bytes: [u8; 4096],
-    n: usize,
-    failed: bool,
-}
-
-fn next_chunk(input: &mut impl Read) -> Chunk {
-    let mut bytes = [0u8; 4096];
-    match input.read(&mut bytes) {
-        Ok(n) => Chunk {
-            bytes: bytes,
-            n: n,
-            failed: false,
-        },
-        Err(_) => Chunk {
-            bytes: bytes,
-            n: 0,
-            failed: true,
-        },
-    }
-}
-
-fn read_chunk(s: Reading, chunk: Chunk) -> Reading {
-    let bytes = chunk.bytes;
-    reading::read(s, text::first(&bytes, chunk.n))
-}
-
-fn migrate_chunk(before: Reading, chunk: Chunk) -> Page {
-    let bytes = chunk.bytes;
-    migrate(before, text::first(&bytes, chunk.n))
+    answer(before.read(rest).finish())
 }
 
 // Reads to the end of the input, one part ahead, so that its last part is at hand when the end is met: a text that comes in one part is
-// handed over whole. A proved loop has to end, and nothing says that the input does: it counts down from a number that no run uses up.
+// handed over whole. A proved loop has to end, and nothing says that the input does: it counts up to a number that no run reaches.
 fn answer_input(input: &mut impl Read) -> Page {
-    let mut s = reading::begin();
-    let mut held = next_chunk(input);
-    let mut failed = held.failed;
-    let mut reads = u64::MAX;
-    while reads > 0 {
-        let next = next_chunk(input);
-        failed = failed | next.failed;
-        if next.n == 0 {
-            break;
+    let mut before = Reading::begin();
+    let mut part = [0u8; 4096];
+    let Ok(mut n) = input.read(&mut part) else {
+        return page::bad();
+    };
+    for _ in 0..u64::MAX {
+        let mut next = [0u8; 4096];
+        match input.read(&mut next) {
+            Ok(0) => break,
+            Ok(more) => {
+                before = before.read(&part[..n]);
+                part = next;
+                n = more;
+            }
+            Err(_) => {
+                before = before.spoiled();
+                break;
+            }
         }
-        s = read_chunk(s, held);
-        held = next;
-        reads -= 1;
     }
-    if failed {
-        s = reading::spoiled(s);
-    }
-    migrate_chunk(s, held)
+    migrate(before, &part[..n])
 }
 
 fn main(rt: HostRuntime) -> io::Result<()> {

@@ -6,6 +6,7 @@ ghost use Rattle.machine.specs.Names.{record_limit};
 ghost use Rattle.migrate.specs.Migrated.{cleared_byte, altered_count, record_line, counts_line, renewed as renewed_of};
 ghost use Rattle.migrate.specs.Page.{page_text, empty_page, with_text, text_of, paired, with_kept};
 
+use arrayvec::ArrayVec;
 use machine::Machine;
 use std::io;
 use text::Text;
@@ -13,11 +14,9 @@ use text::Text;
 // As many lines as a schedule may have records, and the line that counts.
 const ROOM: usize = Machine::RECORDS + 1;
 
-// The first `count` lines are written.
 #[derive(Drop)]
 pub struct Page {
-    pub lines: [Text; ROOM],
-    pub count: usize,
+    pub lines: ArrayVec<Text, ROOM>,
 }
 
 fn cleared(line: u8) -> u8
@@ -30,22 +29,13 @@ fn cleared(line: u8) -> u8
 fn altered(lines: &[u8]) -> usize
     ensures { result ≡ altered_count lines.now }
 {
-    let mut n = 0;
-    let mut i = 0;
-    while i < lines.len() {
-        let line = lines[i];
-        if cleared(line) != line {
-            n += 1;
-        }
-        i += 1;
-    }
-    n
+    lines.iter().filter(|&&line| cleared(line) != line).count()
 }
 
 fn record_text(cycle: u32, line: u8) -> Text
     ensures { result ≡ text_of (record_line (record_is cycle line)) }
 {
-    let number = Text::empty().put_decimal(cycle as u64).put(b' ');
+    let number = Text::empty().put_decimal(u64::from(cycle)).put(b' ');
     number.put_hex_byte(line).put(b'\n')
 }
 
@@ -60,33 +50,24 @@ impl Page {
     fn empty() -> Self
         ensures { result ≡ empty_page }
     {
-        let blank = Text::empty();
         Page {
-            lines: [blank; ROOM],
-            count: 0,
+            lines: ArrayVec::new(),
         }
     }
 
     fn put(mut self, t: Text) -> Self
         ensures { result ≡ with_text self t }
     {
-        let at = self.count;
-        if at < ROOM {
-            self.lines[at] = t;
-            self.count = at + 1;
+        if !self.lines.is_full() {
+            self.lines.push(t);
         }
         self
     }
 
     // No promise can say what reaches the output.
     pub fn print(self, out: &impl Print) -> io::Result<()> {
-        let mut i = 0;
-        while i < ROOM {
-            if i < self.count {
-                let line = self.lines[i];
-                line.print(out)?;
-            }
-            i += 1;
+        for line in self.lines.as_slice() {
+            line.print(out)?;
         }
         Ok(())
     }
@@ -99,14 +80,12 @@ fn kept(cycles: &[u32], lines: &[u8]) -> Page
 {
     let mut page = Page::empty();
     let mut last: u8 = 0;
-    let mut i = 0;
-    while i < cycles.len() {
-        let line = cleared(lines[i]);
+    for (&cycle, &line) in cycles.iter().zip(lines) {
+        let line = cleared(line);
         if line != last {
-            page = page.put(record_text(cycles[i], line));
+            page = page.put(record_text(cycle, line));
         }
         last = line;
-        i += 1;
     }
     page
 }
@@ -117,7 +96,7 @@ pub fn renewed(cycles: &[u32], lines: &[u8]) -> Page
     ensures { page_text result ≡ renewed_of (paired cycles.now lines.now) }
 {
     let page = kept(cycles, lines);
-    let removed = cycles.len() - page.count;
+    let removed = cycles.len() - page.lines.len();
     page.put(counts_text(altered(lines), removed))
 }
 

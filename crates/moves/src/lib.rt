@@ -1,127 +1,87 @@
 // Moves, what takes the operand's address alone, and bits of memory.
 #![tactic(auto)]
 
-ghost use Rattle.std.specs.Prelude.{◌≡◌, true, length};
-ghost use Rattle.word.specs.Word.{pick};
+ghost use Rattle.std.specs.Prelude.{◌≡◌, true};
 ghost use Rattle.opcodes.specs.Rules.{moves_mode};
+ghost use Rattle.opcodes.specs.declared.kind.Kind.TheVariants.{Address, Bits};
 ghost use Rattle.decode.specs.Decode.{Faithful};
-ghost use Rattle.logic.specs.Logic.{all_clear, all_set, or_byte, bclr_byte};
 ghost use Rattle.moves.specs.Addresses.{addressed};
-ghost use Rattle.moves.specs.Bits.{bits_changed, bits_branched, bitted};
-ghost use Rattle.moves.specs.Moves.{byte_move_effect, word_move_effect, move_effect};
+ghost use Rattle.moves.specs.Bits.{bitted};
+ghost use Rattle.moves.specs.Moves.{data_moved, move_effect};
 
 use decode::Decoded;
 use effect::Effect;
-use memory::Store;
-use opcodes::kind;
-use results::Byte;
-use state::{Flags, State};
+use memory::{Data, Memory, Store};
+use opcodes::kind::{AddressOp, BitOp};
+use state::State;
 
-// LEAY to JSR, which is the last, with the operand's address: `s` is the state after the base register's update.
-pub fn addresses(s: State, kind: u16, a: u16, cost: u8) -> Effect
-    ensures { result ≡ addressed s kind a cost }
+// LEAY to JSR, with the operand's address: `s` is the state after the base register's update.
+#[tactic(auto, unfolding(crate::specs::Addresses::addressed))]
+pub fn addresses(s: State, op: AddressOp, a: u16, cost: u8) -> Effect
+    ensures { result ≡ addressed s (Address op) a cost }
 {
-    match kind {
-        kind::LEAY => effect::quiet(s.with_y(a), cost),
-        kind::LEAX => effect::quiet(s.with_x(a), cost),
-        kind::LEAS => effect::quiet(s.with_sp(a), cost),
-        kind::JMP => effect::quiet(s.with_pc(a), cost),
-        _ => stack::subroutine(s, cost, a),
+    match op {
+        AddressOp::Leay => effect::quiet(s.with_y(a), cost),
+        AddressOp::Leax => effect::quiet(s.with_x(a), cost),
+        AddressOp::Leas => effect::quiet(s.with_sp(a), cost),
+        AddressOp::Jmp => effect::quiet(s.with_pc(a), cost),
+        AddressOp::Jsr => stack::subroutine(s, cost, a),
     }
 }
 
-fn with_bits(set: bool, f: Flags, v: u8, mask: u8) -> Byte
-    ensures { result ≡ pick set (or_byte f v mask) (bclr_byte f v mask) }
-{
-    if set {
-        return logic::or_8(f, v, mask);
-    }
-    logic::bclr(f, v, mask)
-}
-
-fn bits_changed(s: State, set: bool, mask: u8, v: u8, a: u16, cost: u8) -> Effect
-    ensures { result ≡ bits_changed s set mask v a cost }
-{
-    let f = s.flags;
-    let r = with_bits(set, f, v, mask);
-    let after = r.flags;
-    effect::writes(s.with_flags(after), cost, Store::byte(a, r.value))
-}
-
-fn bits_tested(set: bool, v: u8, mask: u8) -> bool
-    ensures { result ≡ pick set (all_set v mask) (all_clear v mask) }
-{
-    if set {
-        return logic::bits_set(v, mask);
-    }
-    logic::bits_clear(v, mask)
-}
-
-fn bits_branched(s: State, set: bool, mask: u8, n: u8, v: u8, cost: u8) -> Effect
-    ensures { result ≡ bits_branched s set mask n v cost }
-{
-    flow::branched(s, bits_tested(set, v, mask), word::extend_8(n), cost, cost)
-}
-
-// BSET to BRCLR, which is the last, of the byte at `a`. The mask and the offset are the instruction's last bytes.
-pub fn bits(s: State, m: &[u8], kind: u16, a: u16, cost: u8) -> Effect
-    requires { length m.now ≡ 65536 }
-    ensures { result ≡ bitted s m.now kind a cost }
+// BSET to BRCLR, of the byte at `a`. The mask and the offset are the instruction's last bytes.
+#[tactic(auto, unfolding(crate::specs::Bits::bitted, crate::specs::Bits::bits_changed))]
+pub fn bits(s: State, m: &Memory, op: BitOp, a: u16, cost: u8) -> Effect
+    ensures { result ≡ bitted s m.now (Bits op) a cost }
 {
     let v = memory::read_byte(m, a);
     let last = memory::read_byte(m, word::minus(s.pc, 1));
-    if kind == kind::BSET {
-        return bits_changed(s, true, last, v, a, cost);
-    }
-    if kind == kind::BCLR {
-        return bits_changed(s, false, last, v, a, cost);
-    }
-    let before = memory::read_byte(m, word::minus(s.pc, 2));
-    if kind == kind::BRSET {
-        return bits_branched(s, true, before, last, v, cost);
-    }
-    bits_branched(s, false, before, last, v, cost)
-}
-
-fn move_byte(s: State, m: &[u8], d: Decoded) -> Effect
-    requires m_len { length m.now ≡ 65536 }
-    requires faithful { Faithful m.now d }
-    requires mode_value { moves_mode d.mode ≡ true }
-    ensures { result ≡ byte_move_effect s m.now d }
-{
-    let route = routes::route_of(s, m, d, false);
-    let t = route.state;
+    let changed = match op {
+        BitOp::Bset => logic::or_8(s.flags, v, last),
+        BitOp::Bclr => logic::bclr(s.flags, v, last),
+        BitOp::Brset => {
+            let mask = memory::read_byte(m, word::minus(s.pc, 2));
+            return flow::branched(s, logic::bits_set(v, mask), word::extend(last), cost, cost);
+        }
+        BitOp::Brclr => {
+            let mask = memory::read_byte(m, word::minus(s.pc, 2));
+            return flow::branched(
+                s,
+                logic::bits_clear(v, mask),
+                word::extend(last),
+                cost,
+                cost,
+            );
+        }
+    };
     effect::writes(
-        t,
-        d.cost,
-        Store::byte(route.target, memory::read_byte(m, route.source)),
+        s.with_flags(changed.flags),
+        cost,
+        Store::byte(a, changed.value),
     )
 }
 
-fn move_word(s: State, m: &[u8], d: Decoded) -> Effect
-    requires m_len { length m.now ≡ 65536 }
+// A move of what `D` is, a byte or a word.
+fn move_data<D: Data>(s: State, m: &Memory, d: Decoded) -> Effect
     requires faithful { Faithful m.now d }
     requires mode_value { moves_mode d.mode ≡ true }
-    ensures { result ≡ word_move_effect s m.now d }
+    ensures { result ≡ data_moved D.SIZE D.read_at D.store_at s m.now d }
 {
-    let route = routes::route_of(s, m, d, true);
-    let t = route.state;
-    effect::writes(
-        t,
-        d.cost,
-        Store::word(route.target, memory::read_word(m, route.source)),
-    )
+    let route = routes::route_of(s, m, d, D::SIZE);
+    let data = D::read(m, route.source);
+    effect::writes(route.state, d.cost, data.store(route.target))
 }
 
 // MOVB, and else MOVW.
-pub fn moves(s: State, m: &[u8], d: Decoded) -> Effect
-    requires m_len { length m.now ≡ 65536 }
+#[tactic(auto, unfolding(crate::specs::Moves::move_effect, crate::specs::Moves::byte_move_effect, crate::specs::Moves::word_move_effect))]
+pub fn moves(s: State, m: &Memory, d: Decoded) -> Effect
     requires faithful { Faithful m.now d }
     requires mode_value { moves_mode d.mode ≡ true }
     ensures { result ≡ move_effect s m.now d }
 {
-    if d.kind == kind::MOVB {
-        return move_byte(s, m, d);
+    if opcodes::is_movb(d.kind) {
+        move_data::<u8>(s, m, d)
+    } else {
+        move_data::<u16>(s, m, d)
     }
-    move_word(s, m, d)
 }

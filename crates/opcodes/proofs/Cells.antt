@@ -1,5 +1,5 @@
 -- The laws of the table, each by one test over all 512 cells. Assumes nothing.
-use Prim.Native.Nat.{ℕ, ◌+◌, ◌-◌, ◌/◌, ◌%◌, ◌<◌, ◌≤◌}
+use Prim.Native.Nat.{ℕ, zero, suc, ◌+◌, ◌-◌, ◌/◌, ◌%◌, ◌<◌, ◌≤◌}
 use mathlib.Core.Path.{◌≡◌, refl, sym, ◌∙◌, ap}
 use mathlib.Core.Bool.{Bool, true, false, ◌&&◌, not}
 use mathlib.Core.List.{List, [], ◌∷◌}
@@ -9,41 +9,26 @@ use borrow.Author.Tests.{eq-eqb, lt-ltb, le-ltb}
 use lib.ListN.{length, get_or, replicate, get_or-replicate, get_or-eq_default, get_or-map}
 use native.Mathlib.Decide.{dec_lt}
 use Rattle.word.specs.Word.{pick}
-use Rattle.word.proofs.Table.{at_entry, at_number, every_below, all, holds, same, same_is}
+use Rattle.word.proofs.Table.{at_entry, at_number, every_below, all, holds, same as agree, same_is}
 use Rattle.opcodes.specs.declared.Cell.{Cell}
-use Rattle.opcodes.specs.Kind.{RTI, TRAP, PAGE2, TFR/EXG, LOOP, group_of, STOPS, MOVES}
-use Rattle.opcodes.specs.Mode.{ID}
-use Rattle.opcodes.specs.Grid.{families, family_of, grid, grid_at}
-use Rattle.opcodes.specs.Map.{Lines, no_row, page_one, page_two, cell_is, cell_in, cell_of, cell_number, opcode_map}
+use Rattle.opcodes.specs.Kind.{BGND, RTI, TRAP, PAGE2, TFR/EXG, LOOP, group_of, kind_number, same, STOPS, MOVES}
+use Rattle.opcodes.specs.Mode.{mode_number, IM, ID}
+use Rattle.opcodes.specs.Grid.{families, family_of, family_number, grid, grid_at}
+use Rattle.opcodes.specs.Map.{Lines, no_row, page_one, page_two, cell_is, cell_in, cell_of, cell_number, cells_from, opcode_map}
 use Rattle.opcodes.specs.Postbyte.{IDX, form_of, extension_of, indexed_of, form_reserved, reserved_of, length_in, length_of, cost_in, cost_of, untaken_of}
 use Rattle.opcodes.specs.Rules.{stops_of, stop_cell, trap_cell, prebyte_cell, runs, regular, column, moves_mode, widths, Sixteens, SixteenBySixteen, CostsByOpcode, EveryCell, EveryInstruction, MovesHaveTwoPlaces, MovesArePlain, PastIdMoves, plain_group, PlainUnindexed, FirstGroupStops, OneRti}
 use Rattle.opcodes.proofs.Postbytes.{one_of_five}
 
--- a cell from its number
-abbrev pub unpacked : ℕ → Cell
-unpacked p = record { kind = p / 0x100000 % 4096; mode = p / 0x10000 % 16; family = p / 0x100 % 256; length = p / 0x10 % 16; cost = p % 16 }
+-- entry i of n cells from cell k on
+cells_at : (n k i : ℕ) (d : Cell) → i < n → get_or (cells_from n k) i d ≡ cell_of (k + i)
+cells_at zero k i d h = absurd (omega (arith, h))
+cells_at (suc n) k zero d h = ap cell_of (omega arith)
+cells_at (suc n) k (suc i) d h = cells_at n (suc k) i d (omega (arith, h)) ∙ ap cell_of (omega arith)
 
--- two cells agree in each of the five parts
-parts : Cell → Cell → List Bool
-parts a b = eqb a.kind b.kind ∷ eqb a.mode b.mode ∷ eqb a.family b.family ∷ eqb a.length b.length ∷ eqb a.cost b.cost ∷ []
-
-agrees : Cell → Cell → Bool
-agrees a b = all (parts a b)
-
-agrees_is : (a b : Cell) → T (agrees a b) → a ≡ b
-unfolding agrees parts
-agrees_is a b t = λ i. record {
-  kind = eqb→eq a.kind b.kind (holds (parts a b) t 0) i;
-  mode = eqb→eq a.mode b.mode (holds (parts a b) t 1) i;
-  family = eqb→eq a.family b.family (holds (parts a b) t 2) i;
-  length = eqb→eq a.length b.length (holds (parts a b) t 3) i;
-  cost = eqb→eq a.cost b.cost (holds (parts a b) t 4) i;
-}
-
--- the number that the map holds for a cell gives the cell
-pub map_unpacked : (k : ℕ) → k < 512 → unpacked (get_or opcode_map k 0) ≡ cell_of k
-unfolding agrees parts opcode_map cell_of page_one page_two family_of families
-map_unpacked k h = agrees_is _ _ (at_entry (λ k p. agrees (unpacked p) (cell_of k)) 0 opcode_map tt k h)
+-- the map has the cell of each number
+pub map_at : (k : ℕ) (d : Cell) → k < 512 → get_or opcode_map k d ≡ cell_of k
+unfolding opcode_map
+map_at k d h = cells_at 512 0 k d h ∙ ap cell_of (omega arith)
 
 pub cell_number_below : (second : Bool) {opcode : ℕ} → opcode < 256 → cell_number second opcode < 512
 cell_number_below true h = omega arith
@@ -68,18 +53,18 @@ past_columns family column h = go (dec_lt family 18)
 rules : ℕ → List Bool
 rules k =
     let c = cell_of k in
-    same (eqb c.kind TRAP) (trap_cell k)
-    ∷ same (stops_of c) (stop_cell k)
-    ∷ same (eqb c.kind PAGE2) (prebyte_cell k)
+    agree (same c.kind TRAP) (trap_cell k)
+    ∷ agree (stops_of c) (stop_cell k)
+    ∷ agree (same c.kind PAGE2) (prebyte_cell k)
     ∷ leb 1 c.length
     ∷ leb c.length 6
     ∷ leb c.cost 13
-    ∷ pick (regular c) (eqb c.cost (grid_at c.family (column c))) true
+    ∷ pick (regular c) (eqb c.cost (grid_at (family_number c.family) (column c))) true
     ∷ pick (eqb (group_of c.kind) MOVES) (moves_mode c.mode) true
-    ∷ pick (ltb ID c.mode) (eqb (group_of c.kind) MOVES) true
+    ∷ pick (ltb (mode_number ID) (mode_number c.mode)) (eqb (group_of c.kind) MOVES) true
     ∷ pick (plain_group (group_of c.kind)) (not (indexed_of c)) true
     ∷ pick (prebyte_cell k) true (pick (eqb (group_of c.kind) STOPS) (stops_of c) true)
-    ∷ pick (eqb c.kind RTI) (eqb k 0x0B) true
+    ∷ pick (same c.kind RTI) (eqb k 0x0B) true
     ∷ []
 
 -- the one test over the whole table
@@ -92,9 +77,9 @@ unfolding rules
 every_cell k h =
     let pass = holds (rules k) (tested k h) in
     record {
-      traps = same_is (eqb (cell_of k).kind TRAP) (trap_cell k) (pass 0);
+      traps = same_is (same (cell_of k).kind TRAP) (trap_cell k) (pass 0);
       stops = same_is (stops_of (cell_of k)) (stop_cell k) (pass 1);
-      prebyte = same_is (eqb (cell_of k).kind PAGE2) (prebyte_cell k) (pass 2);
+      prebyte = same_is (same (cell_of k).kind PAGE2) (prebyte_cell k) (pass 2);
       length_low = leb→le 1 (cell_of k).length (pass 3);
       length_high = leb→le (cell_of k).length 6 (pass 4);
       bound = leb→le (cell_of k).cost 13 (pass 5);
@@ -103,7 +88,7 @@ every_cell k h =
 
 -- a form that the cell does not have
 missing : Cell → ℕ → Bool
-missing c j = pick (indexed_of c) (eqb (grid_at c.family (3 + j)) 0) false
+missing c j = pick (indexed_of c) (eqb (grid_at (family_number c.family) (3 + j)) 0) false
 
 -- a test that is asked only of cells that run, in the forms that they have
 asked : ℕ → ℕ → Bool → Bool
@@ -118,8 +103,8 @@ bounds k j =
     ∷ asked k j (leb (untaken_of c) 13)
     ∷ asked k j (leb 1 (length_in c j))
     ∷ asked k j (leb (length_in c j) 6)
-    ∷ pick (indexed_of c) (not (eqb c.kind TFR/EXG) && not (eqb c.kind LOOP)) true
-    ∷ pick (missing c j) true (pick (ltb ID c.mode) (eqb j IDX) true)
+    ∷ pick (indexed_of c) (not (same c.kind TFR/EXG) && not (same c.kind LOOP)) true
+    ∷ pick (missing c j) true (pick (ltb (mode_number ID) (mode_number c.mode)) (eqb j IDX) true)
     ∷ []
 
 -- the one test over every cell in every form
@@ -145,7 +130,7 @@ unfolding missing reserved_of bounds
 not_missing k postbyte h r =
     let c = cell_of k in
     let j = form_of postbyte in
-    form_alone (indexed_of c) (eqb c.kind TFR/EXG) (eqb c.kind LOOP) _ _ (form_reserved c postbyte)
+    form_alone (indexed_of c) (same c.kind TFR/EXG) (same c.kind LOOP) _ _ (form_reserved c postbyte)
     (holds (bounds k j) (bounded k j h (one_of_five postbyte)) 6)
     r
 
@@ -175,18 +160,18 @@ row_widths page wide k h =
     ∙ ap (λ (l : List (List ℕ)). get_or l k (widths no_row)) wide
     ∙ get_or-replicate 16 k (replicate 4 16) (widths no_row) h
 
-past_line : (line : List ℕ) (opcode : ℕ) → length line ≡ 16 → 256 ≤ opcode → get_or line (opcode / 16) 0 ≡ 0
-past_line line opcode wide h = get_or-eq_default line 0 (omega (arith, wide, h))
+past_line : {A : Type 0} (line : List A) (d : A) (opcode : ℕ) → length line ≡ 16 → 256 ≤ opcode → get_or line (opcode / 16) d ≡ d
+past_line line d opcode wide h = get_or-eq_default line d (omega (arith, wide, h))
 
 -- past the last cell there is none
-past_page : (opcode : ℕ) → 256 ≤ opcode → cell_in page_two opcode ≡ cell_is 0 0 0 0
+past_page : (opcode : ℕ) → 256 ≤ opcode → cell_in page_two opcode ≡ cell_is BGND IM 0 0
 past_page opcode h =
     let r = get_or page_two (opcode % 16) no_row in
     let wide = row_widths page_two sixteen_by_sixteen.1 (opcode % 16) (omega arith) in
     let width : (k : ℕ) → get_or (widths r) k 0 ≡ get_or (replicate 4 16) k 0 = λ k. ap (λ (l : List ℕ). get_or l k 0) wide in
-    rw (past_line _ _ (width 0) h, past_line _ _ (width 1) h, past_line _ _ (width 2) h, past_line _ _ (width 3) h)
+    rw (past_line _ _ _ (width 0) h, past_line _ _ _ (width 1) h, past_line _ _ _ (width 2) h, past_line _ _ _ (width 3) h)
 
-past_cells : (k : ℕ) → 512 ≤ k → cell_of k ≡ cell_is 0 0 0 0
+past_cells : (k : ℕ) → 512 ≤ k → cell_of k ≡ cell_is BGND IM 0 0
 unfolding cell_of
 past_cells k h = rw (le-ltb k 256 (omega arith)) (past_page (k - 256) (omega arith))
 
@@ -237,8 +222,8 @@ unfolding rules
 one_rti k is = go (dec_lt k 512)
   where
     go : Dec (k < 512) → k ≡ 0x0B
-    go (yes h) = eqb→eq _ _ (rw (eq-eqb _ _ is) at (holds (rules k) (tested k h) 11))
-    go (no n) = let none = rw (past_cells k (omega arith)) at is in absurd (omega (arith, none))
+    go (yes h) = eqb→eq _ _ (rw is at (holds (rules k) (tested k h) 11))
+    go (no n) = let none : kind_number BGND ≡ kind_number RTI = ap kind_number (rw (past_cells k (omega arith)) at is) in absurd (omega (arith, none))
 
 pub costs_by_opcode : CostsByOpcode
 unfolding cell_of

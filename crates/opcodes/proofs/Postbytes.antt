@@ -4,11 +4,13 @@ use native.Mathlib.Omega.{arith}
 use mathlib.Core.Bool.{Bool, not}
 use mathlib.Core.List.{[], ◌∷◌}
 use lib.Dec.{ltb, eqb, eqb→eq}
-use lib.ListN.{get_or}
+use lib.ListN.{get_or, get_or-map}
+use mathlib.Core.Path.{◌≡◌, sym}
 use Rattle.word.specs.Word.{pick, bit_of}
 use Rattle.word.proofs.Laws.{both}
 use Rattle.word.proofs.Table.{at_number}
-use Rattle.opcodes.specs.Postbyte.{IDX, IDX1, IDX2, [D:IDX], [IDX2], form_of, OneOfFive, AsTabled}
+use Rattle.opcodes.specs.declared.form.Form.TheVariants.{Idx, Idx1, Idx2, DIndirect, Idx2Indirect}
+use Rattle.opcodes.specs.Postbyte.{IDX, IDX1, IDX2, [D:IDX], [IDX2], form_number, form_of, OneOfFive, AsTabled}
 
 pub as_tabled : AsTabled
 unfolding form_of
@@ -20,6 +22,12 @@ as_tabled p h =
     tt
     p
     h)
+
+-- the table of the columns E and F, by the forms' names
+pub form_at : (k : ℕ) →
+    form_number (get_or (Idx1 ∷ Idx1 ∷ Idx2 ∷ Idx2Indirect ∷ Idx ∷ Idx ∷ Idx ∷ DIndirect ∷ []) k Idx)
+    ≡ get_or (IDX1 ∷ IDX1 ∷ IDX2 ∷ [IDX2] ∷ IDX ∷ IDX ∷ IDX ∷ [D:IDX] ∷ []) k IDX
+form_at k = sym (get_or-map form_number (Idx1 ∷ Idx1 ∷ Idx2 ∷ Idx2Indirect ∷ Idx ∷ Idx ∷ Idx ∷ DIndirect ∷ []) k Idx)
 
 pub one_of_five : OneOfFive
 unfolding form_of

@@ -5,61 +5,87 @@
 -- docs/READINGS.md, "Costs", says why.
 use Rattle.std.specs.Prelude.{ℕ, List, [], ◌∷◌, get_or, eqb}
 use Rattle.word.specs.Word.{pick}
-use Rattle.opcodes.specs.Mode.{IM_ID}
+use Rattle.opcodes.specs.declared.kind.Kind.{Kind}
+use Rattle.opcodes.specs.declared.mode.Mode.{Mode}
+use Rattle.opcodes.specs.declared.family.Family.{Family}
+use Rattle.opcodes.specs.declared.family.Family.TheVariants.{Own, Byte, Word, Store, Clear, Modify, Test, Jump, Subroutine, Address, BitChange, BitBranch, Choose, ChooseM, Lookup, LookupW, MoveIm, MoveM}
+use Rattle.opcodes.specs.Kind.{kind_number}
+use Rattle.opcodes.specs.Mode.{mode_number, IM_ID}
 
-abbrev pub NONE : ℕ
-NONE = 0
+-- the number of a family, its row of the grid
+abbrev pub family_number : Family → ℕ
+family_number Own = 0
+family_number Byte = 1
+family_number Word = 2
+family_number Store = 3
+family_number Clear = 4
+family_number Modify = 5
+family_number Test = 6
+family_number Jump = 7
+family_number Subroutine = 8
+family_number Address = 9
+family_number BitChange = 10
+family_number BitBranch = 11
+family_number Choose = 12
+family_number ChooseM = 13
+family_number Lookup = 14
+family_number LookupW = 15
+family_number MoveIm = 16
+family_number MoveM = 17
 
-abbrev pub BYTE : ℕ
-BYTE = 1
+abbrev pub NONE : Family
+NONE = Own
 
-abbrev pub WORD : ℕ
-WORD = 2
+abbrev pub BYTE : Family
+BYTE = Byte
 
-abbrev pub STORE : ℕ
-STORE = 3
+abbrev pub WORD : Family
+WORD = Word
 
-abbrev pub CLEAR : ℕ
-CLEAR = 4
+abbrev pub STORE : Family
+STORE = Store
 
-abbrev pub MODIFY : ℕ
-MODIFY = 5
+abbrev pub CLEAR : Family
+CLEAR = Clear
 
-abbrev pub TEST : ℕ
-TEST = 6
+abbrev pub MODIFY : Family
+MODIFY = Modify
 
-abbrev pub JUMP : ℕ
-JUMP = 7
+abbrev pub TEST : Family
+TEST = Test
 
-abbrev pub SUBROUTINE : ℕ
-SUBROUTINE = 8
+abbrev pub JUMP : Family
+JUMP = Jump
 
-abbrev pub ADDRESS : ℕ
-ADDRESS = 9
+abbrev pub SUBROUTINE : Family
+SUBROUTINE = Subroutine
 
-abbrev pub BIT_CHANGE : ℕ
-BIT_CHANGE = 10
+abbrev pub ADDRESS : Family
+ADDRESS = Address
 
-abbrev pub BIT_BRANCH : ℕ
-BIT_BRANCH = 11
+abbrev pub BIT_CHANGE : Family
+BIT_CHANGE = BitChange
 
-abbrev pub CHOOSE : ℕ
-CHOOSE = 12
+abbrev pub BIT_BRANCH : Family
+BIT_BRANCH = BitBranch
 
-abbrev pub CHOOSE_M : ℕ
-CHOOSE_M = 13
+abbrev pub CHOOSE : Family
+CHOOSE = Choose
 
-abbrev pub LOOKUP : ℕ
-LOOKUP = 14
+abbrev pub CHOOSE_M : Family
+CHOOSE_M = ChooseM
 
-abbrev pub LOOKUP_W : ℕ
-LOOKUP_W = 15
+abbrev pub LOOKUP : Family
+LOOKUP = Lookup
 
-abbrev pub MOVE_IM : ℕ
-MOVE_IM = 16
+abbrev pub LOOKUP_W : Family
+LOOKUP_W = LookupW
 
-abbrev pub MOVE_M : ℕ
-MOVE_M = 17
+abbrev pub MOVE_IM : Family
+MOVE_IM = MoveIm
+
+abbrev pub MOVE_M : Family
+MOVE_M = MoveM
 
 -- The columns: IMM, DIR, EXT, IDX, IDX1, IDX2, [D,IDX], [IDX2].
 unfoldable pub grid : List (List ℕ)
@@ -121,7 +147,7 @@ unfolding grid
 grid_at family form = get_or (get_or grid family []) form 0
 
 -- The family of each kind, a line for each group of sixteen.
-unfoldable pub families : List ℕ
+unfoldable pub families : List Family
 families =
     NONE ∷ NONE ∷ NONE ∷ NONE ∷ NONE ∷ NONE ∷ NONE ∷ NONE ∷ NONE ∷ NONE ∷ NONE ∷ NONE ∷ NONE ∷ NONE ∷ NONE ∷ NONE ∷
     NONE ∷ NONE ∷ NONE ∷ NONE ∷ NONE ∷ NONE ∷ NONE ∷ NONE ∷ NONE ∷ NONE ∷ NONE ∷ NONE ∷ NONE ∷ NONE ∷ NONE ∷ NONE ∷
@@ -145,6 +171,6 @@ families =
     []
 
 -- the family of a cell: that of its kind, but moves of immediate data are a family of their own
-unfoldable pub family_of : ℕ → ℕ → ℕ
+unfoldable pub family_of : Kind → Mode → Family
 unfolding families
-family_of kind mode = pick (eqb mode IM_ID) MOVE_IM (get_or families kind 0)
+family_of kind mode = pick (eqb (mode_number mode) (mode_number IM_ID)) MOVE_IM (get_or families (kind_number kind) NONE)

@@ -1,560 +1,798 @@
 -- A number for each instruction of the opcode map, by its name in source document 002. The number without its last hexadecimal digit
--- is the group and the last digit the member, so that a group has at most sixteen members; there may be more than 256 kinds.
-use Rattle.std.specs.Prelude.{ℕ, ◌/◌, ◌%◌}
+-- is the group and the last digit the member, so that a group has at most sixteen members; there may be more than 256 kinds. The kinds
+-- are declared in src/kind.rt, a variant a group.
+use Rattle.std.specs.Prelude.{ℕ, ◌+◌, ◌*◌, Bool, ◌&&◌, eqb}
+use Rattle.opcodes.specs.declared.kind.Kind.{Kind}
+use Rattle.opcodes.specs.declared.kind.Kind.TheVariants.{Stops, Prebyte, ShortBranch, LongBranch, WithA, WithB, WithWord, Store, InMemory, InA, InB, Registers, Product, Stack, Control, Address, Choose, Move, LookUp, Bits}
+use Rattle.opcodes.specs.declared.kind.Stopping.{Stopping}
+use Rattle.opcodes.specs.declared.kind.Stopping.TheVariants.{Bgnd, Mem, Rtc, Wavr, Call, Rev, Revw, Wav, Stop}
+use Rattle.opcodes.specs.declared.kind.Condition.{Condition}
+use Rattle.opcodes.specs.declared.kind.Condition.TheVariants.{Ra, Rn, Hi, Ls, Cc, Cs, Ne, Eq, Vc, Vs, Pl, Mi, Ge, Lt, Gt, Le}
+use Rattle.opcodes.specs.declared.kind.ByteOp.{ByteOp}
+use Rattle.opcodes.specs.declared.kind.ByteOp.TheVariants.{Sub, Cmp, Sbc, And, Bit, Ld, Eor, Adc, Or, Add}
+use Rattle.opcodes.specs.declared.kind.WordOp.{WordOp}
+use Rattle.opcodes.specs.declared.kind.WordOp.TheVariants.{Subd, Addd, Cpd, Cpy, Cpx, Cps, Ldd, Ldy, Ldx, Lds}
+use Rattle.opcodes.specs.declared.kind.StoreOp.{StoreOp}
+use Rattle.opcodes.specs.declared.kind.StoreOp.TheVariants.{Staa, Stab, Std, Sty, Stx, Sts}
+use Rattle.opcodes.specs.declared.kind.Change.{Change}
+use Rattle.opcodes.specs.declared.kind.Change.TheVariants.{Neg, Com, Inc, Dec, Lsr, Rol, Ror, Asr, Asl, Clr, Tst}
+use Rattle.opcodes.specs.declared.kind.RegisterOp.{RegisterOp}
+use Rattle.opcodes.specs.declared.kind.RegisterOp.TheVariants.{Lsrd, Asld, Inx, Iny, Dex, Dey, Aba, Sba, Cba, Daa, Tab, Tba, Andcc, Orcc, TfrExg, Nop}
+use Rattle.opcodes.specs.declared.kind.ProductOp.{ProductOp}
+use Rattle.opcodes.specs.declared.kind.ProductOp.TheVariants.{Mul, Emul, Emuls, Emacs, Ediv, Edivs, Idiv, Idivs, Fdiv}
+use Rattle.opcodes.specs.declared.kind.StackOp.{StackOp}
+use Rattle.opcodes.specs.declared.kind.StackOp.TheVariants.{Pulx, Puly, Pula, Pulb, Pshx, Pshy, Psha, Pshb, Pulc, Pshc, Puld, Pshd}
+use Rattle.opcodes.specs.declared.kind.ControlOp.{ControlOp}
+use Rattle.opcodes.specs.declared.kind.ControlOp.TheVariants.{Bsr, Rts, Rti, Swi, Trap, Wai, Loop}
+use Rattle.opcodes.specs.declared.kind.AddressOp.{AddressOp}
+use Rattle.opcodes.specs.declared.kind.AddressOp.TheVariants.{Leay, Leax, Leas, Jmp, Jsr}
+use Rattle.opcodes.specs.declared.kind.Choice.{Choice}
+use Rattle.opcodes.specs.declared.kind.Choice.TheVariants.{Maxa, Mina, Emaxd, Emind, Maxm, Minm, Emaxm, Eminm}
+use Rattle.opcodes.specs.declared.kind.MoveOp.{MoveOp}
+use Rattle.opcodes.specs.declared.kind.MoveOp.TheVariants.{Movb, Movw}
+use Rattle.opcodes.specs.declared.kind.Lookup.{Lookup}
+use Rattle.opcodes.specs.declared.kind.Lookup.TheVariants.{Tbl, Etbl}
+use Rattle.opcodes.specs.declared.kind.BitOp.{BitOp}
+use Rattle.opcodes.specs.declared.kind.BitOp.TheVariants.{Bset, Bclr, Brset, Brclr}
 
--- the group and the member of a kind
-abbrev pub group_of : ℕ → ℕ
-group_of kind = kind / 16
+-- the members of each set, as the last digit of their numbers
+abbrev pub stopping_number : Stopping → ℕ
+stopping_number Bgnd = 0x0
+stopping_number Mem = 0x1
+stopping_number Rtc = 0x2
+stopping_number Wavr = 0x3
+stopping_number Call = 0x4
+stopping_number Rev = 0x5
+stopping_number Revw = 0x6
+stopping_number Wav = 0x7
+stopping_number Stop = 0x8
 
-abbrev pub member_of : ℕ → ℕ
-member_of kind = kind % 16
+abbrev pub condition_number : Condition → ℕ
+condition_number Ra = 0x0
+condition_number Rn = 0x1
+condition_number Hi = 0x2
+condition_number Ls = 0x3
+condition_number Cc = 0x4
+condition_number Cs = 0x5
+condition_number Ne = 0x6
+condition_number Eq = 0x7
+condition_number Vc = 0x8
+condition_number Vs = 0x9
+condition_number Pl = 0xA
+condition_number Mi = 0xB
+condition_number Ge = 0xC
+condition_number Lt = 0xD
+condition_number Gt = 0xE
+condition_number Le = 0xF
+
+abbrev pub byte_number : ByteOp → ℕ
+byte_number Sub = 0x0
+byte_number Cmp = 0x1
+byte_number Sbc = 0x2
+byte_number And = 0x4
+byte_number Bit = 0x5
+byte_number Ld = 0x6
+byte_number Eor = 0x8
+byte_number Adc = 0x9
+byte_number Or = 0xA
+byte_number Add = 0xB
+
+abbrev pub word_number : WordOp → ℕ
+word_number Subd = 0x0
+word_number Addd = 0x1
+word_number Cpd = 0x2
+word_number Cpy = 0x3
+word_number Cpx = 0x4
+word_number Cps = 0x5
+word_number Ldd = 0x6
+word_number Ldy = 0x7
+word_number Ldx = 0x8
+word_number Lds = 0x9
+
+abbrev pub store_number : StoreOp → ℕ
+store_number Staa = 0xA
+store_number Stab = 0xB
+store_number Std = 0xC
+store_number Sty = 0xD
+store_number Stx = 0xE
+store_number Sts = 0xF
+
+abbrev pub change_number : Change → ℕ
+change_number Neg = 0x0
+change_number Com = 0x1
+change_number Inc = 0x2
+change_number Dec = 0x3
+change_number Lsr = 0x4
+change_number Rol = 0x5
+change_number Ror = 0x6
+change_number Asr = 0x7
+change_number Asl = 0x8
+change_number Clr = 0x9
+change_number Tst = 0xA
+
+abbrev pub register_number : RegisterOp → ℕ
+register_number Lsrd = 0x0
+register_number Asld = 0x1
+register_number Inx = 0x2
+register_number Iny = 0x3
+register_number Dex = 0x4
+register_number Dey = 0x5
+register_number Aba = 0x6
+register_number Sba = 0x7
+register_number Cba = 0x8
+register_number Daa = 0x9
+register_number Tab = 0xA
+register_number Tba = 0xB
+register_number Andcc = 0xC
+register_number Orcc = 0xD
+register_number TfrExg = 0xE
+register_number Nop = 0xF
+
+abbrev pub product_number : ProductOp → ℕ
+product_number Mul = 0x0
+product_number Emul = 0x1
+product_number Emuls = 0x2
+product_number Emacs = 0x3
+product_number Ediv = 0x4
+product_number Edivs = 0x5
+product_number Idiv = 0x6
+product_number Idivs = 0x7
+product_number Fdiv = 0x8
+
+abbrev pub stack_number : StackOp → ℕ
+stack_number Pulx = 0x0
+stack_number Puly = 0x1
+stack_number Pula = 0x2
+stack_number Pulb = 0x3
+stack_number Pshx = 0x4
+stack_number Pshy = 0x5
+stack_number Psha = 0x6
+stack_number Pshb = 0x7
+stack_number Pulc = 0x8
+stack_number Pshc = 0x9
+stack_number Puld = 0xA
+stack_number Pshd = 0xB
+
+abbrev pub control_number : ControlOp → ℕ
+control_number Bsr = 0x0
+control_number Rts = 0x1
+control_number Rti = 0x2
+control_number Swi = 0x3
+control_number Trap = 0x4
+control_number Wai = 0x5
+control_number Loop = 0x6
+
+abbrev pub address_number : AddressOp → ℕ
+address_number Leay = 0x0
+address_number Leax = 0x1
+address_number Leas = 0x2
+address_number Jmp = 0x3
+address_number Jsr = 0x4
+
+abbrev pub choice_number : Choice → ℕ
+choice_number Maxa = 0x0
+choice_number Mina = 0x1
+choice_number Emaxd = 0x2
+choice_number Emind = 0x3
+choice_number Maxm = 0x4
+choice_number Minm = 0x5
+choice_number Emaxm = 0x6
+choice_number Eminm = 0x7
+
+abbrev pub move_number : MoveOp → ℕ
+move_number Movb = 0x0
+move_number Movw = 0x1
+
+abbrev pub lookup_number : Lookup → ℕ
+lookup_number Tbl = 0x0
+lookup_number Etbl = 0x1
+
+abbrev pub bit_number : BitOp → ℕ
+bit_number Bset = 0x0
+bit_number Bclr = 0x1
+bit_number Brset = 0x2
+bit_number Brclr = 0x3
+
+-- the group of a kind
+abbrev pub group_of : Kind → ℕ
+group_of (Stops k) = 0x0
+group_of Prebyte = 0x0
+group_of (ShortBranch k) = 0x1
+group_of (LongBranch k) = 0x2
+group_of (WithA k) = 0x3
+group_of (WithB k) = 0x4
+group_of (WithWord k) = 0x5
+group_of (Store k) = 0x6
+group_of (InMemory k) = 0x7
+group_of (InA k) = 0x8
+group_of (InB k) = 0x9
+group_of (Registers k) = 0xA
+group_of (Product k) = 0xB
+group_of (Stack k) = 0xC
+group_of (Control k) = 0xD
+group_of (Address k) = 0xE
+group_of (Choose k) = 0xF
+group_of (Move k) = 0x10
+group_of (LookUp k) = 0x11
+group_of (Bits k) = 0x12
+
+-- and the member
+abbrev pub member_of : Kind → ℕ
+member_of (Stops k) = stopping_number k
+member_of Prebyte = 0x9
+member_of (ShortBranch k) = condition_number k
+member_of (LongBranch k) = condition_number k
+member_of (WithA k) = byte_number k
+member_of (WithB k) = byte_number k
+member_of (WithWord k) = word_number k
+member_of (Store k) = store_number k
+member_of (InMemory k) = change_number k
+member_of (InA k) = change_number k
+member_of (InB k) = change_number k
+member_of (Registers k) = register_number k
+member_of (Product k) = product_number k
+member_of (Stack k) = stack_number k
+member_of (Control k) = control_number k
+member_of (Address k) = address_number k
+member_of (Choose k) = choice_number k
+member_of (Move k) = move_number k
+member_of (LookUp k) = lookup_number k
+member_of (Bits k) = bit_number k
+
+-- the number of a kind
+abbrev pub kind_number : Kind → ℕ
+kind_number kind = group_of kind * 16 + member_of kind
+
+-- whether two kinds are the same member of the same group
+abbrev pub same : Kind → Kind → Bool
+same a b = eqb (group_of a) (group_of b) && eqb (member_of a) (member_of b)
 
 -- what stops the machine (the ten encodings of docs/MACHINE.md, "The machine"; CALL has two), and the prebyte
-abbrev pub BGND : ℕ
-BGND = 0x00
+abbrev pub BGND : Kind
+BGND = Stops Bgnd
 
-abbrev pub MEM : ℕ
-MEM = 0x01
+abbrev pub MEM : Kind
+MEM = Stops Mem
 
-abbrev pub RTC : ℕ
-RTC = 0x02
+abbrev pub RTC : Kind
+RTC = Stops Rtc
 
-abbrev pub wavr : ℕ
-wavr = 0x03
+abbrev pub wavr : Kind
+wavr = Stops Wavr
 
-abbrev pub CALL : ℕ
-CALL = 0x04
+abbrev pub CALL : Kind
+CALL = Stops Call
 
-abbrev pub REV : ℕ
-REV = 0x05
+abbrev pub REV : Kind
+REV = Stops Rev
 
-abbrev pub REVW : ℕ
-REVW = 0x06
+abbrev pub REVW : Kind
+REVW = Stops Revw
 
-abbrev pub WAV : ℕ
-WAV = 0x07
+abbrev pub WAV : Kind
+WAV = Stops Wav
 
-abbrev pub STOP : ℕ
-STOP = 0x08
+abbrev pub STOP : Kind
+STOP = Stops Stop
 
-abbrev pub PAGE2 : ℕ
-PAGE2 = 0x09
+abbrev pub PAGE2 : Kind
+PAGE2 = Prebyte
 
 -- short branches, in the order of opcodes 20 to 2F
-abbrev pub BRA : ℕ
-BRA = 0x10
+abbrev pub BRA : Kind
+BRA = ShortBranch Ra
 
-abbrev pub BRN : ℕ
-BRN = 0x11
+abbrev pub BRN : Kind
+BRN = ShortBranch Rn
 
-abbrev pub BHI : ℕ
-BHI = 0x12
+abbrev pub BHI : Kind
+BHI = ShortBranch Hi
 
-abbrev pub BLS : ℕ
-BLS = 0x13
+abbrev pub BLS : Kind
+BLS = ShortBranch Ls
 
-abbrev pub BCC : ℕ
-BCC = 0x14
+abbrev pub BCC : Kind
+BCC = ShortBranch Cc
 
-abbrev pub BCS : ℕ
-BCS = 0x15
+abbrev pub BCS : Kind
+BCS = ShortBranch Cs
 
-abbrev pub BNE : ℕ
-BNE = 0x16
+abbrev pub BNE : Kind
+BNE = ShortBranch Ne
 
-abbrev pub BEQ : ℕ
-BEQ = 0x17
+abbrev pub BEQ : Kind
+BEQ = ShortBranch Eq
 
-abbrev pub BVC : ℕ
-BVC = 0x18
+abbrev pub BVC : Kind
+BVC = ShortBranch Vc
 
-abbrev pub BVS : ℕ
-BVS = 0x19
+abbrev pub BVS : Kind
+BVS = ShortBranch Vs
 
-abbrev pub BPL : ℕ
-BPL = 0x1A
+abbrev pub BPL : Kind
+BPL = ShortBranch Pl
 
-abbrev pub BMI : ℕ
-BMI = 0x1B
+abbrev pub BMI : Kind
+BMI = ShortBranch Mi
 
-abbrev pub BGE : ℕ
-BGE = 0x1C
+abbrev pub BGE : Kind
+BGE = ShortBranch Ge
 
-abbrev pub BLT : ℕ
-BLT = 0x1D
+abbrev pub BLT : Kind
+BLT = ShortBranch Lt
 
-abbrev pub BGT : ℕ
-BGT = 0x1E
+abbrev pub BGT : Kind
+BGT = ShortBranch Gt
 
-abbrev pub BLE : ℕ
-BLE = 0x1F
+abbrev pub BLE : Kind
+BLE = ShortBranch Le
 
 -- long branches, in the order of page 2's 20 to 2F
-abbrev pub LBRA : ℕ
-LBRA = 0x20
+abbrev pub LBRA : Kind
+LBRA = LongBranch Ra
 
-abbrev pub LBRN : ℕ
-LBRN = 0x21
+abbrev pub LBRN : Kind
+LBRN = LongBranch Rn
 
-abbrev pub LBHI : ℕ
-LBHI = 0x22
+abbrev pub LBHI : Kind
+LBHI = LongBranch Hi
 
-abbrev pub LBLS : ℕ
-LBLS = 0x23
+abbrev pub LBLS : Kind
+LBLS = LongBranch Ls
 
-abbrev pub LBCC : ℕ
-LBCC = 0x24
+abbrev pub LBCC : Kind
+LBCC = LongBranch Cc
 
-abbrev pub LBCS : ℕ
-LBCS = 0x25
+abbrev pub LBCS : Kind
+LBCS = LongBranch Cs
 
-abbrev pub LBNE : ℕ
-LBNE = 0x26
+abbrev pub LBNE : Kind
+LBNE = LongBranch Ne
 
-abbrev pub LBEQ : ℕ
-LBEQ = 0x27
+abbrev pub LBEQ : Kind
+LBEQ = LongBranch Eq
 
-abbrev pub LBVC : ℕ
-LBVC = 0x28
+abbrev pub LBVC : Kind
+LBVC = LongBranch Vc
 
-abbrev pub LBVS : ℕ
-LBVS = 0x29
+abbrev pub LBVS : Kind
+LBVS = LongBranch Vs
 
-abbrev pub LBPL : ℕ
-LBPL = 0x2A
+abbrev pub LBPL : Kind
+LBPL = LongBranch Pl
 
-abbrev pub LBMI : ℕ
-LBMI = 0x2B
+abbrev pub LBMI : Kind
+LBMI = LongBranch Mi
 
-abbrev pub LBGE : ℕ
-LBGE = 0x2C
+abbrev pub LBGE : Kind
+LBGE = LongBranch Ge
 
-abbrev pub LBLT : ℕ
-LBLT = 0x2D
+abbrev pub LBLT : Kind
+LBLT = LongBranch Lt
 
-abbrev pub LBGT : ℕ
-LBGT = 0x2E
+abbrev pub LBGT : Kind
+LBGT = LongBranch Gt
 
-abbrev pub LBLE : ℕ
-LBLE = 0x2F
+abbrev pub LBLE : Kind
+LBLE = LongBranch Le
 
 -- A with an operand, by the opcode's second digit
-abbrev pub SUBA : ℕ
-SUBA = 0x30
+abbrev pub SUBA : Kind
+SUBA = WithA Sub
 
-abbrev pub CMPA : ℕ
-CMPA = 0x31
+abbrev pub CMPA : Kind
+CMPA = WithA Cmp
 
-abbrev pub SBCA : ℕ
-SBCA = 0x32
+abbrev pub SBCA : Kind
+SBCA = WithA Sbc
 
-abbrev pub ANDA : ℕ
-ANDA = 0x34
+abbrev pub ANDA : Kind
+ANDA = WithA And
 
-abbrev pub BITA : ℕ
-BITA = 0x35
+abbrev pub BITA : Kind
+BITA = WithA Bit
 
-abbrev pub LDAA : ℕ
-LDAA = 0x36
+abbrev pub LDAA : Kind
+LDAA = WithA Ld
 
-abbrev pub EORA : ℕ
-EORA = 0x38
+abbrev pub EORA : Kind
+EORA = WithA Eor
 
-abbrev pub ADCA : ℕ
-ADCA = 0x39
+abbrev pub ADCA : Kind
+ADCA = WithA Adc
 
-abbrev pub ORAA : ℕ
-ORAA = 0x3A
+abbrev pub ORAA : Kind
+ORAA = WithA Or
 
-abbrev pub ADDA : ℕ
-ADDA = 0x3B
+abbrev pub ADDA : Kind
+ADDA = WithA Add
 
 -- B with an operand, by the opcode's second digit
-abbrev pub SUBB : ℕ
-SUBB = 0x40
+abbrev pub SUBB : Kind
+SUBB = WithB Sub
 
-abbrev pub CMPB : ℕ
-CMPB = 0x41
+abbrev pub CMPB : Kind
+CMPB = WithB Cmp
 
-abbrev pub SBCB : ℕ
-SBCB = 0x42
+abbrev pub SBCB : Kind
+SBCB = WithB Sbc
 
-abbrev pub ANDB : ℕ
-ANDB = 0x44
+abbrev pub ANDB : Kind
+ANDB = WithB And
 
-abbrev pub BITB : ℕ
-BITB = 0x45
+abbrev pub BITB : Kind
+BITB = WithB Bit
 
-abbrev pub LDAB : ℕ
-LDAB = 0x46
+abbrev pub LDAB : Kind
+LDAB = WithB Ld
 
-abbrev pub EORB : ℕ
-EORB = 0x48
+abbrev pub EORB : Kind
+EORB = WithB Eor
 
-abbrev pub ADCB : ℕ
-ADCB = 0x49
+abbrev pub ADCB : Kind
+ADCB = WithB Adc
 
-abbrev pub ORAB : ℕ
-ORAB = 0x4A
+abbrev pub ORAB : Kind
+ORAB = WithB Or
 
-abbrev pub ADDB : ℕ
-ADDB = 0x4B
+abbrev pub ADDB : Kind
+ADDB = WithB Add
 
 -- D, X, Y or SP with an operand
-abbrev pub SUBD : ℕ
-SUBD = 0x50
+abbrev pub SUBD : Kind
+SUBD = WithWord Subd
 
-abbrev pub ADDD : ℕ
-ADDD = 0x51
+abbrev pub ADDD : Kind
+ADDD = WithWord Addd
 
-abbrev pub CPD : ℕ
-CPD = 0x52
+abbrev pub CPD : Kind
+CPD = WithWord Cpd
 
-abbrev pub CPY : ℕ
-CPY = 0x53
+abbrev pub CPY : Kind
+CPY = WithWord Cpy
 
-abbrev pub CPX : ℕ
-CPX = 0x54
+abbrev pub CPX : Kind
+CPX = WithWord Cpx
 
-abbrev pub CPS : ℕ
-CPS = 0x55
+abbrev pub CPS : Kind
+CPS = WithWord Cps
 
-abbrev pub LDD : ℕ
-LDD = 0x56
+abbrev pub LDD : Kind
+LDD = WithWord Ldd
 
-abbrev pub LDY : ℕ
-LDY = 0x57
+abbrev pub LDY : Kind
+LDY = WithWord Ldy
 
-abbrev pub LDX : ℕ
-LDX = 0x58
+abbrev pub LDX : Kind
+LDX = WithWord Ldx
 
-abbrev pub LDS : ℕ
-LDS = 0x59
+abbrev pub LDS : Kind
+LDS = WithWord Lds
 
 -- stores, by the opcode's second digit
-abbrev pub STAA : ℕ
-STAA = 0x6A
+abbrev pub STAA : Kind
+STAA = Store Staa
 
-abbrev pub STAB : ℕ
-STAB = 0x6B
+abbrev pub STAB : Kind
+STAB = Store Stab
 
-abbrev pub STD : ℕ
-STD = 0x6C
+abbrev pub STD : Kind
+STD = Store Std
 
-abbrev pub STY : ℕ
-STY = 0x6D
+abbrev pub STY : Kind
+STY = Store Sty
 
-abbrev pub STX : ℕ
-STX = 0x6E
+abbrev pub STX : Kind
+STX = Store Stx
 
-abbrev pub STS : ℕ
-STS = 0x6F
+abbrev pub STS : Kind
+STS = Store Sts
 
 -- a byte of memory is read, changed and written back; cleared; tested
-abbrev pub NEG : ℕ
-NEG = 0x70
+abbrev pub NEG : Kind
+NEG = InMemory Neg
 
-abbrev pub COM : ℕ
-COM = 0x71
+abbrev pub COM : Kind
+COM = InMemory Com
 
-abbrev pub INC : ℕ
-INC = 0x72
+abbrev pub INC : Kind
+INC = InMemory Inc
 
-abbrev pub DEC : ℕ
-DEC = 0x73
+abbrev pub DEC : Kind
+DEC = InMemory Dec
 
-abbrev pub LSR : ℕ
-LSR = 0x74
+abbrev pub LSR : Kind
+LSR = InMemory Lsr
 
-abbrev pub ROL : ℕ
-ROL = 0x75
+abbrev pub ROL : Kind
+ROL = InMemory Rol
 
-abbrev pub ROR : ℕ
-ROR = 0x76
+abbrev pub ROR : Kind
+ROR = InMemory Ror
 
-abbrev pub ASR : ℕ
-ASR = 0x77
+abbrev pub ASR : Kind
+ASR = InMemory Asr
 
-abbrev pub ASL : ℕ
-ASL = 0x78
+abbrev pub ASL : Kind
+ASL = InMemory Asl
 
-abbrev pub CLR : ℕ
-CLR = 0x79
+abbrev pub CLR : Kind
+CLR = InMemory Clr
 
-abbrev pub TST : ℕ
-TST = 0x7A
+abbrev pub TST : Kind
+TST = InMemory Tst
 
 -- the same in A
-abbrev pub NEGA : ℕ
-NEGA = 0x80
+abbrev pub NEGA : Kind
+NEGA = InA Neg
 
-abbrev pub COMA : ℕ
-COMA = 0x81
+abbrev pub COMA : Kind
+COMA = InA Com
 
-abbrev pub INCA : ℕ
-INCA = 0x82
+abbrev pub INCA : Kind
+INCA = InA Inc
 
-abbrev pub DECA : ℕ
-DECA = 0x83
+abbrev pub DECA : Kind
+DECA = InA Dec
 
-abbrev pub LSRA : ℕ
-LSRA = 0x84
+abbrev pub LSRA : Kind
+LSRA = InA Lsr
 
-abbrev pub ROLA : ℕ
-ROLA = 0x85
+abbrev pub ROLA : Kind
+ROLA = InA Rol
 
-abbrev pub RORA : ℕ
-RORA = 0x86
+abbrev pub RORA : Kind
+RORA = InA Ror
 
-abbrev pub ASRA : ℕ
-ASRA = 0x87
+abbrev pub ASRA : Kind
+ASRA = InA Asr
 
-abbrev pub ASLA : ℕ
-ASLA = 0x88
+abbrev pub ASLA : Kind
+ASLA = InA Asl
 
-abbrev pub CLRA : ℕ
-CLRA = 0x89
+abbrev pub CLRA : Kind
+CLRA = InA Clr
 
-abbrev pub TSTA : ℕ
-TSTA = 0x8A
+abbrev pub TSTA : Kind
+TSTA = InA Tst
 
 -- the same in B
-abbrev pub NEGB : ℕ
-NEGB = 0x90
+abbrev pub NEGB : Kind
+NEGB = InB Neg
 
-abbrev pub COMB : ℕ
-COMB = 0x91
+abbrev pub COMB : Kind
+COMB = InB Com
 
-abbrev pub INCB : ℕ
-INCB = 0x92
+abbrev pub INCB : Kind
+INCB = InB Inc
 
-abbrev pub DECB : ℕ
-DECB = 0x93
+abbrev pub DECB : Kind
+DECB = InB Dec
 
-abbrev pub LSRB : ℕ
-LSRB = 0x94
+abbrev pub LSRB : Kind
+LSRB = InB Lsr
 
-abbrev pub ROLB : ℕ
-ROLB = 0x95
+abbrev pub ROLB : Kind
+ROLB = InB Rol
 
-abbrev pub RORB : ℕ
-RORB = 0x96
+abbrev pub RORB : Kind
+RORB = InB Ror
 
-abbrev pub ASRB : ℕ
-ASRB = 0x97
+abbrev pub ASRB : Kind
+ASRB = InB Asr
 
-abbrev pub ASLB : ℕ
-ASLB = 0x98
+abbrev pub ASLB : Kind
+ASLB = InB Asl
 
-abbrev pub CLRB : ℕ
-CLRB = 0x99
+abbrev pub CLRB : Kind
+CLRB = InB Clr
 
-abbrev pub TSTB : ℕ
-TSTB = 0x9A
+abbrev pub TSTB : Kind
+TSTB = InB Tst
 
 -- registers and condition codes alone
-abbrev pub LSRD : ℕ
-LSRD = 0xA0
+abbrev pub LSRD : Kind
+LSRD = Registers Lsrd
 
-abbrev pub ASLD : ℕ
-ASLD = 0xA1
+abbrev pub ASLD : Kind
+ASLD = Registers Asld
 
-abbrev pub INX : ℕ
-INX = 0xA2
+abbrev pub INX : Kind
+INX = Registers Inx
 
-abbrev pub INY : ℕ
-INY = 0xA3
+abbrev pub INY : Kind
+INY = Registers Iny
 
-abbrev pub DEX : ℕ
-DEX = 0xA4
+abbrev pub DEX : Kind
+DEX = Registers Dex
 
-abbrev pub DEY : ℕ
-DEY = 0xA5
+abbrev pub DEY : Kind
+DEY = Registers Dey
 
-abbrev pub ABA : ℕ
-ABA = 0xA6
+abbrev pub ABA : Kind
+ABA = Registers Aba
 
-abbrev pub SBA : ℕ
-SBA = 0xA7
+abbrev pub SBA : Kind
+SBA = Registers Sba
 
-abbrev pub CBA : ℕ
-CBA = 0xA8
+abbrev pub CBA : Kind
+CBA = Registers Cba
 
-abbrev pub DAA : ℕ
-DAA = 0xA9
+abbrev pub DAA : Kind
+DAA = Registers Daa
 
-abbrev pub TAB : ℕ
-TAB = 0xAA
+abbrev pub TAB : Kind
+TAB = Registers Tab
 
-abbrev pub TBA : ℕ
-TBA = 0xAB
+abbrev pub TBA : Kind
+TBA = Registers Tba
 
-abbrev pub ANDCC : ℕ
-ANDCC = 0xAC
+abbrev pub ANDCC : Kind
+ANDCC = Registers Andcc
 
-abbrev pub ORCC : ℕ
-ORCC = 0xAD
+abbrev pub ORCC : Kind
+ORCC = Registers Orcc
 
-abbrev pub TFR/EXG : ℕ
-TFR/EXG = 0xAE
+abbrev pub TFR/EXG : Kind
+TFR/EXG = Registers TfrExg
 
-abbrev pub NOP : ℕ
-NOP = 0xAF
+abbrev pub NOP : Kind
+NOP = Registers Nop
 
 -- products and quotients
-abbrev pub MUL : ℕ
-MUL = 0xB0
+abbrev pub MUL : Kind
+MUL = Product Mul
 
-abbrev pub EMUL : ℕ
-EMUL = 0xB1
+abbrev pub EMUL : Kind
+EMUL = Product Emul
 
-abbrev pub EMULS : ℕ
-EMULS = 0xB2
+abbrev pub EMULS : Kind
+EMULS = Product Emuls
 
-abbrev pub EMACS : ℕ
-EMACS = 0xB3
+abbrev pub EMACS : Kind
+EMACS = Product Emacs
 
-abbrev pub EDIV : ℕ
-EDIV = 0xB4
+abbrev pub EDIV : Kind
+EDIV = Product Ediv
 
-abbrev pub EDIVS : ℕ
-EDIVS = 0xB5
+abbrev pub EDIVS : Kind
+EDIVS = Product Edivs
 
-abbrev pub IDIV : ℕ
-IDIV = 0xB6
+abbrev pub IDIV : Kind
+IDIV = Product Idiv
 
-abbrev pub IDIVS : ℕ
-IDIVS = 0xB7
+abbrev pub IDIVS : Kind
+IDIVS = Product Idivs
 
-abbrev pub FDIV : ℕ
-FDIV = 0xB8
+abbrev pub FDIV : Kind
+FDIV = Product Fdiv
 
 -- pulls and pushes
-abbrev pub PULX : ℕ
-PULX = 0xC0
+abbrev pub PULX : Kind
+PULX = Stack Pulx
 
-abbrev pub PULY : ℕ
-PULY = 0xC1
+abbrev pub PULY : Kind
+PULY = Stack Puly
 
-abbrev pub PULA : ℕ
-PULA = 0xC2
+abbrev pub PULA : Kind
+PULA = Stack Pula
 
-abbrev pub PULB : ℕ
-PULB = 0xC3
+abbrev pub PULB : Kind
+PULB = Stack Pulb
 
-abbrev pub PSHX : ℕ
-PSHX = 0xC4
+abbrev pub PSHX : Kind
+PSHX = Stack Pshx
 
-abbrev pub PSHY : ℕ
-PSHY = 0xC5
+abbrev pub PSHY : Kind
+PSHY = Stack Pshy
 
-abbrev pub PSHA : ℕ
-PSHA = 0xC6
+abbrev pub PSHA : Kind
+PSHA = Stack Psha
 
-abbrev pub PSHB : ℕ
-PSHB = 0xC7
+abbrev pub PSHB : Kind
+PSHB = Stack Pshb
 
-abbrev pub PULC : ℕ
-PULC = 0xC8
+abbrev pub PULC : Kind
+PULC = Stack Pulc
 
-abbrev pub PSHC : ℕ
-PSHC = 0xC9
+abbrev pub PSHC : Kind
+PSHC = Stack Pshc
 
-abbrev pub PULD : ℕ
-PULD = 0xCA
+abbrev pub PULD : Kind
+PULD = Stack Puld
 
-abbrev pub PSHD : ℕ
-PSHD = 0xCB
+abbrev pub PSHD : Kind
+PSHD = Stack Pshd
 
 -- subroutines, interrupts and loops: what changes the flow and has no operand in memory
-abbrev pub BSR : ℕ
-BSR = 0xD0
+abbrev pub BSR : Kind
+BSR = Control Bsr
 
-abbrev pub RTS : ℕ
-RTS = 0xD1
+abbrev pub RTS : Kind
+RTS = Control Rts
 
-abbrev pub RTI : ℕ
-RTI = 0xD2
+abbrev pub RTI : Kind
+RTI = Control Rti
 
-abbrev pub SWI : ℕ
-SWI = 0xD3
+abbrev pub SWI : Kind
+SWI = Control Swi
 
-abbrev pub TRAP : ℕ
-TRAP = 0xD4
+abbrev pub TRAP : Kind
+TRAP = Control Trap
 
-abbrev pub WAI : ℕ
-WAI = 0xD5
+abbrev pub WAI : Kind
+WAI = Control Wai
 
-abbrev pub LOOP : ℕ
-LOOP = 0xD6
+abbrev pub LOOP : Kind
+LOOP = Control Loop
 
 -- what takes the operand's address alone
-abbrev pub LEAY : ℕ
-LEAY = 0xE0
+abbrev pub LEAY : Kind
+LEAY = Address Leay
 
-abbrev pub LEAX : ℕ
-LEAX = 0xE1
+abbrev pub LEAX : Kind
+LEAX = Address Leax
 
-abbrev pub LEAS : ℕ
-LEAS = 0xE2
+abbrev pub LEAS : Kind
+LEAS = Address Leas
 
-abbrev pub JMP : ℕ
-JMP = 0xE3
+abbrev pub JMP : Kind
+JMP = Address Jmp
 
-abbrev pub JSR : ℕ
-JSR = 0xE4
+abbrev pub JSR : Kind
+JSR = Address Jsr
 
 -- the larger or smaller of two
-abbrev pub MAXA : ℕ
-MAXA = 0xF0
+abbrev pub MAXA : Kind
+MAXA = Choose Maxa
 
-abbrev pub MINA : ℕ
-MINA = 0xF1
+abbrev pub MINA : Kind
+MINA = Choose Mina
 
-abbrev pub EMAXD : ℕ
-EMAXD = 0xF2
+abbrev pub EMAXD : Kind
+EMAXD = Choose Emaxd
 
-abbrev pub EMIND : ℕ
-EMIND = 0xF3
+abbrev pub EMIND : Kind
+EMIND = Choose Emind
 
-abbrev pub MAXM : ℕ
-MAXM = 0xF4
+abbrev pub MAXM : Kind
+MAXM = Choose Maxm
 
-abbrev pub MINM : ℕ
-MINM = 0xF5
+abbrev pub MINM : Kind
+MINM = Choose Minm
 
-abbrev pub EMAXM : ℕ
-EMAXM = 0xF6
+abbrev pub EMAXM : Kind
+EMAXM = Choose Emaxm
 
-abbrev pub EMINM : ℕ
-EMINM = 0xF7
+abbrev pub EMINM : Kind
+EMINM = Choose Eminm
 
 -- moves
-abbrev pub MOVB : ℕ
-MOVB = 0x100
+abbrev pub MOVB : Kind
+MOVB = Move Movb
 
-abbrev pub MOVW : ℕ
-MOVW = 0x101
+abbrev pub MOVW : Kind
+MOVW = Move Movw
 
 -- table lookup
-abbrev pub TBL : ℕ
-TBL = 0x110
+abbrev pub TBL : Kind
+TBL = LookUp Tbl
 
-abbrev pub ETBL : ℕ
-ETBL = 0x111
+abbrev pub ETBL : Kind
+ETBL = LookUp Etbl
 
 -- bits of memory: changed, or tested for a branch
-abbrev pub BSET : ℕ
-BSET = 0x120
+abbrev pub BSET : Kind
+BSET = Bits Bset
 
-abbrev pub BCLR : ℕ
-BCLR = 0x121
+abbrev pub BCLR : Kind
+BCLR = Bits Bclr
 
-abbrev pub BRSET : ℕ
-BRSET = 0x122
+abbrev pub BRSET : Kind
+BRSET = Bits Brset
 
-abbrev pub BRCLR : ℕ
-BRCLR = 0x123
+abbrev pub BRCLR : Kind
+BRCLR = Bits Brclr
 
 -- the groups, each by the first of its kinds
 abbrev pub STOPS : ℕ

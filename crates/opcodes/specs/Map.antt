@@ -3,24 +3,27 @@
 -- Each row has four lines: the names, the addressing modes, the lengths in bytes and the costs in cycles.
 -- An indexed cell has the length and the cost of a plain IDX postbyte; a conditional branch the cost when it is taken; what stops
 -- the machine, and the prebyte, the cost 0. Where the papers disagree, docs/READINGS.md says what decides.
-use Rattle.std.specs.Prelude.{ℕ, zero, suc, ◌+◌, ◌-◌, ◌*◌, ◌/◌, ◌%◌, Bool, List, [], ◌∷◌, get_or, ltb}
+use Rattle.std.specs.Prelude.{ℕ, zero, suc, ◌+◌, ◌-◌, ◌/◌, ◌%◌, Bool, List, [], ◌∷◌, get_or, ltb}
 use Rattle.word.specs.Word.{pick}
 use Rattle.opcodes.specs.declared.Cell.{Cell}
+use Rattle.opcodes.specs.declared.kind.Kind.{Kind}
+use Rattle.opcodes.specs.declared.mode.Mode.{Mode}
 use Rattle.opcodes.specs.Kind.{BGND, MEM, RTC, wavr, CALL, REV, REVW, WAV, STOP, PAGE2, BRA, BRN, BHI, BLS, BCC, BCS, BNE, BEQ, BVC, BVS, BPL, BMI, BGE, BLT, BGT, BLE, LBRA, LBRN, LBHI, LBLS, LBCC, LBCS, LBNE, LBEQ, LBVC, LBVS, LBPL, LBMI, LBGE, LBLT, LBGT, LBLE, SUBA, CMPA, SBCA, ANDA, BITA, LDAA, EORA, ADCA, ORAA, ADDA, SUBB, CMPB, SBCB, ANDB, BITB, LDAB, EORB, ADCB, ORAB, ADDB, SUBD, ADDD, CPD, CPY, CPX, CPS, LDD, LDY, LDX, LDS, STAA, STAB, STD, STY, STX, STS, NEG, COM, INC, DEC, LSR, ROL, ROR, ASR, ASL, CLR, TST, NEGA, COMA, INCA, DECA, LSRA, ROLA, RORA, ASRA, ASLA, CLRA, TSTA, NEGB, COMB, INCB, DECB, LSRB, ROLB, RORB, ASRB, ASLB, CLRB, TSTB, LSRD, ASLD, INX, INY, DEX, DEY, ABA, SBA, CBA, DAA, TAB, TBA, ANDCC, ORCC, TFR/EXG, NOP, MUL, EMUL, EMULS, EMACS, EDIV, EDIVS, IDIV, IDIVS, FDIV, TBL, ETBL, PULX, PULY, PULA, PULB, PSHX, PSHY, PSHA, PSHB, PULC, PSHC, PULD, PSHD, JMP, JSR, BSR, RTS, RTI, SWI, TRAP, WAI, LOOP, LEAY, LEAX, LEAS, BSET, BCLR, BRSET, BRCLR, MOVB, MOVW, MAXA, MINA, EMAXD, EMIND, MAXM, MINM, EMAXM, EMINM}
 use Rattle.opcodes.specs.Mode.{IM, DI, EX, IH, RL, SP, IM_EX, EX_EX, ID, IM_ID, EX_ID, ID_ID, ID_EX}
 use Rattle.opcodes.specs.Grid.{family_of}
 
-abbrev pub cell_is : ℕ → ℕ → ℕ → ℕ → Cell
-cell_is kind mode length cost = record { kind = kind; mode = mode; family = family_of kind mode; length = length; cost = cost }
+-- a cell, its family by its kind and mode; nothing is in its spare bytes
+abbrev pub cell_is : Kind → Mode → ℕ → ℕ → Cell
+cell_is kind mode length cost = record { kind = kind; mode = mode; family = family_of kind mode; length = length; cost = cost; spare = 0 }
 
 -- a row of the map: its four lines
 pub record Lines : Type 0 where
-  pub names : List ℕ
-  pub modes : List ℕ
+  pub names : List Kind
+  pub modes : List Mode
   pub lengths : List ℕ
   pub costs : List ℕ
 
-abbrev pub row : List ℕ → List ℕ → List ℕ → List ℕ → Lines
+abbrev pub row : List Kind → List Mode → List ℕ → List ℕ → Lines
 row names modes lengths costs = record { names = names; modes = modes; lengths = lengths; costs = costs }
 
 abbrev pub no_row : Lines
@@ -229,7 +232,7 @@ page_two =
 -- the cell in a column of a row
 abbrev pub cell_on : Lines → ℕ → Cell
 cell_on r column =
-    cell_is (get_or r.names column 0) (get_or r.modes column 0) (get_or r.lengths column 0) (get_or r.costs column 0)
+    cell_is (get_or r.names column BGND) (get_or r.modes column IM) (get_or r.lengths column 0) (get_or r.costs column 0)
 
 -- the cell of an opcode: its row by the second digit, its column by the first
 abbrev pub cell_in : List Lines → ℕ → Cell
@@ -244,15 +247,11 @@ unfoldable pub cell_of : ℕ → Cell
 unfolding page_one page_two
 cell_of k = pick (ltb k 256) (cell_in page_one k) (cell_in page_two (k - 256))
 
--- A cell as one number, three hexadecimal digits for the kind, one for the mode, two for the family, one each for length and cost.
-abbrev pub packed : Cell → ℕ
-packed c = c.kind * 0x100000 + c.mode * 0x10000 + c.family * 0x100 + c.length * 0x10 + c.cost
+-- n cells from cell k on
+abbrev pub cells_from : ℕ → ℕ → List Cell
+cells_from zero k = []
+cells_from (suc n) k = cell_of k ∷ cells_from n (suc k)
 
--- the numbers of n cells from cell k on
-abbrev pub packed_from : ℕ → ℕ → List ℕ
-packed_from zero k = []
-packed_from (suc n) k = packed (cell_of k) ∷ packed_from n (suc k)
-
--- the map as the machine reads it: a number for each of the 512 cells
-unfoldable pub opcode_map : List ℕ
-opcode_map = packed_from 512 0
+-- the map as the machine reads it: the 512 cells
+unfoldable pub opcode_map : List Cell
+opcode_map = cells_from 512 0

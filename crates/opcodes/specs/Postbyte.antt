@@ -2,9 +2,11 @@
 use Rattle.std.specs.Prelude.{ℕ, ◌+◌, ◌/◌, ◌%◌, ◌<◌, ◌≡◌, Bool, false, ◌||◌, not, [], ◌∷◌, get_or, leb, ltb, eqb}
 use Rattle.word.specs.Word.{pick, bit_of}
 use Rattle.opcodes.specs.declared.Cell.{Cell}
-use Rattle.opcodes.specs.Kind.{TFR/EXG, LOOP, group_of, SHORT_BRANCHES, LONG_BRANCHES}
-use Rattle.opcodes.specs.Mode.{ID}
-use Rattle.opcodes.specs.Grid.{grid_at}
+use Rattle.opcodes.specs.declared.form.Form.{Form}
+use Rattle.opcodes.specs.declared.form.Form.TheVariants.{Idx, Idx1, Idx2, DIndirect, Idx2Indirect}
+use Rattle.opcodes.specs.Kind.{TFR/EXG, LOOP, group_of, same, SHORT_BRANCHES, LONG_BRANCHES}
+use Rattle.opcodes.specs.Mode.{mode_number, ID}
+use Rattle.opcodes.specs.Grid.{family_number, grid_at}
 
 -- The five address forms of an indexed postbyte, in the order of the grid's columns from IDX on.
 abbrev pub IDX : ℕ
@@ -21,6 +23,14 @@ abbrev pub [D:IDX] : ℕ
 
 abbrev pub [IDX2] : ℕ
 [IDX2] = 4
+
+-- the number of a form that the code names
+abbrev pub form_number : Form → ℕ
+form_number Idx = IDX
+form_number Idx1 = IDX1
+form_number Idx2 = IDX2
+form_number DIndirect = [D:IDX]
+form_number Idx2Indirect = [IDX2]
 
 -- The form that a postbyte names, by the rules of docs/MACHINE.md, "Addresses" (source document 000, table 4; 002, table A-5):
 -- rr0nnnnn is a 5-bit offset, rr1pnnnn with rr not 3 a step before or after, both IDX; 111rr0zs with z = 0 is a 9-bit offset,
@@ -39,7 +49,7 @@ extension_of form = pick (eqb form IDX1) 1 (pick (eqb form IDX2) 2 (pick (eqb fo
 
 -- whether a cell has an indexed postbyte
 abbrev pub indexed_of : Cell → Bool
-indexed_of c = leb ID c.mode
+indexed_of c = leb (mode_number ID) (mode_number c.mode)
 
 -- What is reserved (docs/MACHINE.md, "Reserved postbytes"). In a TFR or EXG postbyte: register code 3 in bits 6 to 4 or 2 to 0.
 abbrev pub transfer_reserved : ℕ → Bool
@@ -51,13 +61,13 @@ loop_reserved postbyte = leb 6 (postbyte / 32) || (eqb (postbyte % 8) 2 || eqb (
 
 -- In an indexed postbyte: a form that is not among those of the instruction, which the grid prices at 0.
 abbrev pub form_reserved : Cell → ℕ → Bool
-form_reserved c postbyte = eqb (grid_at c.family (3 + form_of postbyte)) 0
+form_reserved c postbyte = eqb (grid_at (family_number c.family) (3 + form_of postbyte)) 0
 
 -- whether a postbyte of a cell is reserved
 unfoldable pub reserved_of : Cell → ℕ → Bool
 reserved_of c postbyte =
-    pick (eqb c.kind TFR/EXG) (transfer_reserved postbyte)
-    (pick (eqb c.kind LOOP) (loop_reserved postbyte)
+    pick (same c.kind TFR/EXG) (transfer_reserved postbyte)
+    (pick (same c.kind LOOP) (loop_reserved postbyte)
     (pick (indexed_of c) (form_reserved c postbyte) false))
 
 -- the length of the whole instruction in an address form, and with its postbyte
@@ -69,7 +79,7 @@ length_of c postbyte = length_in c (form_of postbyte)
 
 -- the cost of the whole instruction in an address form, and with its postbyte; of a branch, when it is taken
 abbrev pub cost_in : Cell → ℕ → ℕ
-cost_in c form = pick (indexed_of c) (grid_at c.family (3 + form)) c.cost
+cost_in c form = pick (indexed_of c) (grid_at (family_number c.family) (3 + form)) c.cost
 
 unfoldable pub cost_of : Cell → ℕ → ℕ
 cost_of c postbyte = cost_in c (form_of postbyte)

@@ -2,16 +2,17 @@
 use Rattle.std.specs.Prelude.{ℕ, ◌<◌, ◌≤◌, ◌≡◌, Bool, true, false, ◌&&◌, ◌||◌, List, [], ◌∷◌, map, leb, eqb, length, replicate}
 use Rattle.word.specs.Word.{pick}
 use Rattle.opcodes.specs.declared.Cell.{Cell}
-use Rattle.opcodes.specs.Kind.{RTI, TRAP, PAGE2, STOP, group_of, STOPS, SHORT_BRANCHES, LONG_BRANCHES, IN_A, IN_B, REGISTERS, PRODUCTS, STACK, CONTROL, MOVES}
-use Rattle.opcodes.specs.Mode.{EX, IM_EX, EX_EX, ID, IM_ID, EX_ID, ID_ID, ID_EX}
-use Rattle.opcodes.specs.Grid.{grid_at, NONE}
+use Rattle.opcodes.specs.declared.mode.Mode.{Mode}
+use Rattle.opcodes.specs.Kind.{RTI, TRAP, PAGE2, STOP, group_of, kind_number, same, STOPS, SHORT_BRANCHES, LONG_BRANCHES, IN_A, IN_B, REGISTERS, PRODUCTS, STACK, CONTROL, MOVES}
+use Rattle.opcodes.specs.Mode.{mode_number, EX, IM_EX, EX_EX, ID, IM_ID, EX_ID, ID_ID, ID_EX}
+use Rattle.opcodes.specs.Grid.{family_number, grid_at, NONE}
 use Rattle.opcodes.specs.Map.{Lines, page_one, page_two, cell_of}
 use Rattle.opcodes.specs.Postbyte.{IDX, form_of, indexed_of, reserved_of, length_of, cost_of, untaken_of}
 
 -- the kinds that stop the machine are the first of the numbering, up to STOP: BGND (002, p. 6-31), MEM (6-141), RTC (6-176), wavr (9-23),
 -- CALL (6-52), REV (6-166), REVW (6-168), WAV (6-214), STOP (6-189)
 abbrev pub stops_of : Cell → Bool
-stops_of c = leb c.kind STOP
+stops_of c = leb (kind_number c.kind) (kind_number STOP)
 
 -- whether a number is in a list
 abbrev pub among : ℕ → List ℕ → Bool
@@ -38,26 +39,26 @@ runs k = pick (stop_cell k) false (pick (prebyte_cell k) false true)
 
 -- the grid's column for a cell: IMM, DIR and EXT by their number, IDX for any indexed mode; none for other modes
 abbrev pub regular : Cell → Bool
-regular c = pick (eqb c.family NONE) false (leb c.mode EX || indexed_of c)
+regular c = pick (eqb (family_number c.family) (family_number NONE)) false (leb (mode_number c.mode) (mode_number EX) || indexed_of c)
 
 abbrev pub column : Cell → ℕ
-column c = pick (indexed_of c) 3 c.mode
+column c = pick (indexed_of c) 3 (mode_number c.mode)
 
 -- What the table promises of cell number k.
 pub record Ruled (k : ℕ) : Type 0 where
   -- a cell is a trap exactly in the trap range
-  pub traps : eqb (cell_of k).kind TRAP ≡ trap_cell k
+  pub traps : same (cell_of k).kind TRAP ≡ trap_cell k
   -- a cell stops the machine exactly at the ten encodings
   pub stops : stops_of (cell_of k) ≡ stop_cell k
   -- exactly the cell 18 of page 1 is the prebyte
-  pub prebyte : eqb (cell_of k).kind PAGE2 ≡ prebyte_cell k
+  pub prebyte : same (cell_of k).kind PAGE2 ≡ prebyte_cell k
   -- a length is 1 to 6
   pub length_low : 1 ≤ (cell_of k).length
   pub length_high : (cell_of k).length ≤ 6
   -- no cost is above 13
   pub bound : (cell_of k).cost ≤ 13
   -- a regular cell's cost is its entry in the grid
-  pub priced : regular (cell_of k) ≡ true → (cell_of k).cost ≡ grid_at (cell_of k).family (column (cell_of k))
+  pub priced : regular (cell_of k) ≡ true → (cell_of k).cost ≡ grid_at (family_number (cell_of k).family) (column (cell_of k))
 
 -- The laws, each proved under the same name in proofs/Cells.antt.
 
@@ -102,8 +103,8 @@ EveryInstruction =
     Bounded k postbyte
 
 -- the modes of a move, where from and where to, by the pages of MOVB (002, p. 6-144) and MOVW (6-145)
-abbrev pub moves_mode : ℕ → Bool
-moves_mode mode = among mode (IM_EX ∷ EX_EX ∷ IM_ID ∷ EX_ID ∷ ID_ID ∷ ID_EX ∷ [])
+abbrev pub moves_mode : Mode → Bool
+moves_mode mode = among (mode_number mode) (map mode_number (IM_EX ∷ EX_EX ∷ IM_ID ∷ EX_ID ∷ ID_ID ∷ ID_EX ∷ []))
 
 -- a move has one of these
 abbrev pub MovesHaveTwoPlaces : Type 0
@@ -111,11 +112,11 @@ MovesHaveTwoPlaces = (k : ℕ) → group_of (cell_of k).kind ≡ MOVES → moves
 
 -- and a postbyte in a mode past ID, which is a move's, has the form IDX or is reserved (docs/MACHINE.md, "Reserved postbytes")
 abbrev pub MovesArePlain : Type 0
-MovesArePlain = (k postbyte : ℕ) → ID < (cell_of k).mode → reserved_of (cell_of k) postbyte ≡ false → form_of postbyte ≡ IDX
+MovesArePlain = (k postbyte : ℕ) → mode_number ID < mode_number (cell_of k).mode → reserved_of (cell_of k) postbyte ≡ false → form_of postbyte ≡ IDX
 
 -- Past ID there are moves alone, so that nothing else has two postbytes.
 abbrev pub PastIdMoves : Type 0
-PastIdMoves = (k : ℕ) → ID < (cell_of k).mode → group_of (cell_of k).kind ≡ MOVES
+PastIdMoves = (k : ℕ) → mode_number ID < mode_number (cell_of k).mode → group_of (cell_of k).kind ≡ MOVES
 
 -- The groups without an operand at a place in memory. Of REGISTERS a transfer has a postbyte that may be reserved, and of CONTROL a loop
 -- primitive; the others have none.

@@ -1,13 +1,11 @@
-// The address forms of an indexed postbyte, in the order of the grid's columns from IDX on, as specs/Postbyte.antt numbers them.
-
-pub const IDX: u8 = 0;
-
-pub const IDX1: u8 = 1;
-
-pub const IDX2: u8 = 2;
-
-// [D,IDX] of the papers.
-pub const D_INDIRECT: u8 = 3;
-
-// [IDX2] of the papers.
-pub const IDX2_INDIRECT: u8 = 4;
+// The address forms of an indexed postbyte, in the order of the grid's columns from IDX on; specs/Postbyte.antt numbers them so.
+#[derive(Clone, Copy)]
+pub enum Form {
+    Idx,
+    Idx1,
+    Idx2,
+    // [D,IDX] of the papers.
+    DIndirect,
+    // [IDX2] of the papers.
+    Idx2Indirect,
+}

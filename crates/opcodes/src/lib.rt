@@ -1,637 +1,639 @@
-// The opcode map: what each of the 512 cells is, how long it is and what it costs; and the names of kinds, modes and forms.
+// The opcode map: what each of the 512 cells is, how long it is and what it costs; and the names of kinds, modes, families and forms.
 #![tactic(auto)]
 
-ghost use Rattle.std.specs.Prelude.{◌≡◌, ◌+◌, ◌<◌};
-ghost use Rattle.opcodes.specs.Grid.{grid_at, grid as grid_of};
-ghost use Rattle.opcodes.specs.Kind.{group_of, member_of};
-ghost use Rattle.opcodes.specs.Map.{cell_of, cell_number, opcode_map};
-ghost use Rattle.opcodes.specs.Postbyte.{form_of, extension_of, indexed_of, transfer_reserved, loop_reserved, reserved_of, length_in, cost_in, cost_of, untaken_of};
+ghost use Rattle.std.specs.Prelude.{◌≡◌, ◌+◌};
+ghost use Rattle.opcodes.specs.Grid.{grid_at};
+ghost use Rattle.opcodes.specs.Kind.{TFR/EXG, LOOP, MOVB, same};
+ghost use Rattle.opcodes.specs.Map.{cell_of, cell_number};
+ghost use Rattle.opcodes.specs.Postbyte.{form_number, form_of, extension_of, indexed_of, transfer_reserved, loop_reserved, reserved_of, length_in, cost_in, cost_of, untaken_of};
 ghost use Rattle.opcodes.specs.Rules.{stops_of};
 
+pub mod family;
 pub mod form;
-pub mod group;
 pub mod kind;
-pub mod member;
 pub mod mode;
 
+use family::Family;
+use form::Form;
+use kind::{
+    AddressOp, BitOp, ByteOp, Change, Choice, Condition, ControlOp, Kind, Lookup, MoveOp,
+    ProductOp, RegisterOp, StackOp, Stopping, StoreOp, WordOp,
+};
+use mode::Mode;
+
 // A cell of the map. `kind` says which instruction; `mode` how it is addressed; `family` which row
-// of the grid prices it; `length` in bytes and `cost` in cycles are those of a plain IDX postbyte where it has one.
+// of the grid prices it; `length` in bytes and `cost` in cycles are those of a plain IDX postbyte where it has one. `spare` is 0: with it a
+// cell has eight bytes, which are read as one number (docs/SPEED.md).
 #[derive(Clone, Copy)]
 pub struct Cell {
-    pub kind: u16,
-    pub mode: u8,
-    pub family: u8,
+    pub kind: Kind,
+    pub mode: Mode,
+    pub family: Family,
     pub length: u8,
     pub cost: u8,
+    pub spare: u16,
 }
 
-// The group of a kind, one of those that `group` names.
-pub fn group_of(kind: u16) -> u16
-    ensures { result ≡ group_of kind }
-{
-    kind / 16
+// A cell in one line: its kind, mode and family, its length in bytes and its cost in cycles.
+macro_rules! cell {
+    (Prebyte, $mode:ident, $family:ident, $length:literal, $cost:literal) => {
+        Cell {
+            kind: Kind::Prebyte,
+            mode: Mode::$mode,
+            family: Family::$family,
+            length: $length,
+            cost: $cost,
+            spare: 0,
+        }
+    };
+    ($group:ident($set:ident::$member:ident), $mode:ident, $family:ident, $length:literal, $cost:literal) => {
+        Cell {
+            kind: Kind::$group($set::$member),
+            mode: Mode::$mode,
+            family: Family::$family,
+            length: $length,
+            cost: $cost,
+            spare: 0,
+        }
+    };
 }
 
-// The member of its group that a kind is; `member` names those that several groups share.
-pub fn member_of(kind: u16) -> u16
-    ensures { result ≡ member_of kind }
-{
-    kind % 16
-}
-
-// A number a cell, page 1 and then page 2. Its hexadecimal digits: three for the kind, one for the mode, two for the family,
-// one for the length, one for the cost.
-const MAP: [u32; 512] = [
-    0x00030010, // 00 BGND IH
-    0x00130010, // 01 MEM IH
-    0x0A330011, // 02 INY IH
-    0x0A530011, // 03 DEY IH
-    0x0D640033, // 04 LOOP RL
-    0x0E380723, // 05 JMP ID
-    0x0E320733, // 06 JMP EX
-    0x0D040024, // 07 BSR RL
-    0x0A230011, // 08 INX IH
-    0x0A430011, // 09 DEX IH
-    0x00230010, // 0A RTC IH
-    0x0D230018, // 0B RTI IH
-    0x12080A34, // 0C BSET ID
-    0x12180A34, // 0D BCLR ID
-    0x12280B44, // 0E BRSET ID
-    0x12380B44, // 0F BRCLR ID
-    0x0AC00021, // 10 ANDCC IM
-    0x0B43001B, // 11 EDIV IH
-    0x0B030011, // 12 MUL IH
-    0x0B130013, // 13 EMUL IH
-    0x0AD00021, // 14 ORCC IM
-    0x0E480824, // 15 JSR ID
-    0x0E420834, // 16 JSR EX
-    0x0E410824, // 17 JSR DI
-    0x00930010, // 18 PAGE2 IH
-    0x0E080922, // 19 LEAY ID
-    0x0E180922, // 1A LEAX ID
-    0x0E280922, // 1B LEAS ID
-    0x12020A44, // 1C BSET EX
-    0x12120A44, // 1D BCLR EX
-    0x12220B55, // 1E BRSET EX
-    0x12320B55, // 1F BRCLR EX
-    0x01040023, // 20 BRA RL
-    0x01140021, // 21 BRN RL
-    0x01240023, // 22 BHI RL
-    0x01340023, // 23 BLS RL
-    0x01440023, // 24 BCC RL
-    0x01540023, // 25 BCS RL
-    0x01640023, // 26 BNE RL
-    0x01740023, // 27 BEQ RL
-    0x01840023, // 28 BVC RL
-    0x01940023, // 29 BVS RL
-    0x01A40023, // 2A BPL RL
-    0x01B40023, // 2B BMI RL
-    0x01C40023, // 2C BGE RL
-    0x01D40023, // 2D BLT RL
-    0x01E40023, // 2E BGT RL
-    0x01F40023, // 2F BLE RL
-    0x0C030013, // 30 PULX IH
-    0x0C130013, // 31 PULY IH
-    0x0C230013, // 32 PULA IH
-    0x0C330013, // 33 PULB IH
-    0x0C430012, // 34 PSHX IH
-    0x0C530012, // 35 PSHY IH
-    0x0C630012, // 36 PSHA IH
-    0x0C730012, // 37 PSHB IH
-    0x0C830013, // 38 PULC IH
-    0x0C930012, // 39 PSHC IH
-    0x0CA30013, // 3A PULD IH
-    0x0CB30012, // 3B PSHD IH
-    0x00350010, // 3C wavr SP
-    0x0D130015, // 3D RTS IH
-    0x0D530017, // 3E WAI IH
-    0x0D330019, // 3F SWI IH
-    0x08030011, // 40 NEGA IH
-    0x08130011, // 41 COMA IH
-    0x08230011, // 42 INCA IH
-    0x08330011, // 43 DECA IH
-    0x08430011, // 44 LSRA IH
-    0x08530011, // 45 ROLA IH
-    0x08630011, // 46 RORA IH
-    0x08730011, // 47 ASRA IH
-    0x08830011, // 48 ASLA IH
-    0x0A030011, // 49 LSRD IH
-    0x00420040, // 4A CALL EX
-    0x00480030, // 4B CALL ID
-    0x12010A34, // 4C BSET DI
-    0x12110A34, // 4D BCLR DI
-    0x12210B44, // 4E BRSET DI
-    0x12310B44, // 4F BRCLR DI
-    0x09030011, // 50 NEGB IH
-    0x09130011, // 51 COMB IH
-    0x09230011, // 52 INCB IH
-    0x09330011, // 53 DECB IH
-    0x09430011, // 54 LSRB IH
-    0x09530011, // 55 ROLB IH
-    0x09630011, // 56 RORB IH
-    0x09730011, // 57 ASRB IH
-    0x09830011, // 58 ASLB IH
-    0x0A130011, // 59 ASLD IH
-    0x06A10322, // 5A STAA DI
-    0x06B10322, // 5B STAB DI
-    0x06C10322, // 5C STD DI
-    0x06D10322, // 5D STY DI
-    0x06E10322, // 5E STX DI
-    0x06F10322, // 5F STS DI
-    0x07080523, // 60 NEG ID
-    0x07180523, // 61 COM ID
-    0x07280523, // 62 INC ID
-    0x07380523, // 63 DEC ID
-    0x07480523, // 64 LSR ID
-    0x07580523, // 65 ROL ID
-    0x07680523, // 66 ROR ID
-    0x07780523, // 67 ASR ID
-    0x07880523, // 68 ASL ID
-    0x07980422, // 69 CLR ID
-    0x06A80322, // 6A STAA ID
-    0x06B80322, // 6B STAB ID
-    0x06C80322, // 6C STD ID
-    0x06D80322, // 6D STY ID
-    0x06E80322, // 6E STX ID
-    0x06F80322, // 6F STS ID
-    0x07020534, // 70 NEG EX
-    0x07120534, // 71 COM EX
-    0x07220534, // 72 INC EX
-    0x07320534, // 73 DEC EX
-    0x07420534, // 74 LSR EX
-    0x07520534, // 75 ROL EX
-    0x07620534, // 76 ROR EX
-    0x07720534, // 77 ASR EX
-    0x07820534, // 78 ASL EX
-    0x07920433, // 79 CLR EX
-    0x06A20333, // 7A STAA EX
-    0x06B20333, // 7B STAB EX
-    0x06C20333, // 7C STD EX
-    0x06D20333, // 7D STY EX
-    0x06E20333, // 7E STX EX
-    0x06F20333, // 7F STS EX
-    0x03000121, // 80 SUBA IM
-    0x03100121, // 81 CMPA IM
-    0x03200121, // 82 SBCA IM
-    0x05000232, // 83 SUBD IM
-    0x03400121, // 84 ANDA IM
-    0x03500121, // 85 BITA IM
-    0x03600121, // 86 LDAA IM
-    0x08930011, // 87 CLRA IH
-    0x03800121, // 88 EORA IM
-    0x03900121, // 89 ADCA IM
-    0x03A00121, // 8A ORAA IM
-    0x03B00121, // 8B ADDA IM
-    0x05200232, // 8C CPD IM
-    0x05300232, // 8D CPY IM
-    0x05400232, // 8E CPX IM
-    0x05500232, // 8F CPS IM
-    0x03010123, // 90 SUBA DI
-    0x03110123, // 91 CMPA DI
-    0x03210123, // 92 SBCA DI
-    0x05010223, // 93 SUBD DI
-    0x03410123, // 94 ANDA DI
-    0x03510123, // 95 BITA DI
-    0x03610123, // 96 LDAA DI
-    0x08A30011, // 97 TSTA IH
-    0x03810123, // 98 EORA DI
-    0x03910123, // 99 ADCA DI
-    0x03A10123, // 9A ORAA DI
-    0x03B10123, // 9B ADDA DI
-    0x05210223, // 9C CPD DI
-    0x05310223, // 9D CPY DI
-    0x05410223, // 9E CPX DI
-    0x05510223, // 9F CPS DI
-    0x03080123, // A0 SUBA ID
-    0x03180123, // A1 CMPA ID
-    0x03280123, // A2 SBCA ID
-    0x05080223, // A3 SUBD ID
-    0x03480123, // A4 ANDA ID
-    0x03580123, // A5 BITA ID
-    0x03680123, // A6 LDAA ID
-    0x0AF30011, // A7 NOP IH
-    0x03880123, // A8 EORA ID
-    0x03980123, // A9 ADCA ID
-    0x03A80123, // AA ORAA ID
-    0x03B80123, // AB ADDA ID
-    0x05280223, // AC CPD ID
-    0x05380223, // AD CPY ID
-    0x05480223, // AE CPX ID
-    0x05580223, // AF CPS ID
-    0x03020133, // B0 SUBA EX
-    0x03120133, // B1 CMPA EX
-    0x03220133, // B2 SBCA EX
-    0x05020233, // B3 SUBD EX
-    0x03420133, // B4 ANDA EX
-    0x03520133, // B5 BITA EX
-    0x03620133, // B6 LDAA EX
-    0x0AE30021, // B7 TFR/EXG IH
-    0x03820133, // B8 EORA EX
-    0x03920133, // B9 ADCA EX
-    0x03A20133, // BA ORAA EX
-    0x03B20133, // BB ADDA EX
-    0x05220233, // BC CPD EX
-    0x05320233, // BD CPY EX
-    0x05420233, // BE CPX EX
-    0x05520233, // BF CPS EX
-    0x04000121, // C0 SUBB IM
-    0x04100121, // C1 CMPB IM
-    0x04200121, // C2 SBCB IM
-    0x05100232, // C3 ADDD IM
-    0x04400121, // C4 ANDB IM
-    0x04500121, // C5 BITB IM
-    0x04600121, // C6 LDAB IM
-    0x09930011, // C7 CLRB IH
-    0x04800121, // C8 EORB IM
-    0x04900121, // C9 ADCB IM
-    0x04A00121, // CA ORAB IM
-    0x04B00121, // CB ADDB IM
-    0x05600232, // CC LDD IM
-    0x05700232, // CD LDY IM
-    0x05800232, // CE LDX IM
-    0x05900232, // CF LDS IM
-    0x04010123, // D0 SUBB DI
-    0x04110123, // D1 CMPB DI
-    0x04210123, // D2 SBCB DI
-    0x05110223, // D3 ADDD DI
-    0x04410123, // D4 ANDB DI
-    0x04510123, // D5 BITB DI
-    0x04610123, // D6 LDAB DI
-    0x09A30011, // D7 TSTB IH
-    0x04810123, // D8 EORB DI
-    0x04910123, // D9 ADCB DI
-    0x04A10123, // DA ORAB DI
-    0x04B10123, // DB ADDB DI
-    0x05610223, // DC LDD DI
-    0x05710223, // DD LDY DI
-    0x05810223, // DE LDX DI
-    0x05910223, // DF LDS DI
-    0x04080123, // E0 SUBB ID
-    0x04180123, // E1 CMPB ID
-    0x04280123, // E2 SBCB ID
-    0x05180223, // E3 ADDD ID
-    0x04480123, // E4 ANDB ID
-    0x04580123, // E5 BITB ID
-    0x04680123, // E6 LDAB ID
-    0x07A80623, // E7 TST ID
-    0x04880123, // E8 EORB ID
-    0x04980123, // E9 ADCB ID
-    0x04A80123, // EA ORAB ID
-    0x04B80123, // EB ADDB ID
-    0x05680223, // EC LDD ID
-    0x05780223, // ED LDY ID
-    0x05880223, // EE LDX ID
-    0x05980223, // EF LDS ID
-    0x04020133, // F0 SUBB EX
-    0x04120133, // F1 CMPB EX
-    0x04220133, // F2 SBCB EX
-    0x05120233, // F3 ADDD EX
-    0x04420133, // F4 ANDB EX
-    0x04520133, // F5 BITB EX
-    0x04620133, // F6 LDAB EX
-    0x07A20633, // F7 TST EX
-    0x04820133, // F8 EORB EX
-    0x04920133, // F9 ADCB EX
-    0x04A20133, // FA ORAB EX
-    0x04B20133, // FB ADDB EX
-    0x05620233, // FC LDD EX
-    0x05720233, // FD LDY EX
-    0x05820233, // FE LDX EX
-    0x05920233, // FF LDS EX
-    0x10191054, // 18 00 MOVW IM-ID
-    0x101A1155, // 18 01 MOVW EX-ID
-    0x101B1145, // 18 02 MOVW ID-ID
-    0x10161165, // 18 03 MOVW IM-EX
-    0x10171166, // 18 04 MOVW EX-EX
-    0x101C1155, // 18 05 MOVW ID-EX
-    0x0A630022, // 18 06 ABA IH
-    0x0A930023, // 18 07 DAA IH
-    0x10091044, // 18 08 MOVB IM-ID
-    0x100A1155, // 18 09 MOVB EX-ID
-    0x100B1145, // 18 0A MOVB ID-ID
-    0x10061154, // 18 0B MOVB IM-EX
-    0x10071166, // 18 0C MOVB EX-EX
-    0x100C1155, // 18 0D MOVB ID-EX
-    0x0AA30022, // 18 0E TAB IH
-    0x0AB30022, // 18 0F TBA IH
-    0x0B63002C, // 18 10 IDIV IH
-    0x0B83002C, // 18 11 FDIV IH
-    0x0B35004D, // 18 12 EMACS SP
-    0x0B230023, // 18 13 EMULS IH
-    0x0B53002C, // 18 14 EDIVS IH
-    0x0B73002C, // 18 15 IDIVS IH
-    0x0A730022, // 18 16 SBA IH
-    0x0A830022, // 18 17 CBA IH
-    0x0F080C34, // 18 18 MAXA ID
-    0x0F180C34, // 18 19 MINA ID
-    0x0F280C34, // 18 1A EMAXD ID
-    0x0F380C34, // 18 1B EMIND ID
-    0x0F480D34, // 18 1C MAXM ID
-    0x0F580D34, // 18 1D MINM ID
-    0x0F680D34, // 18 1E EMAXM ID
-    0x0F780D34, // 18 1F EMINM ID
-    0x02040044, // 18 20 LBRA RL
-    0x02140043, // 18 21 LBRN RL
-    0x02240044, // 18 22 LBHI RL
-    0x02340044, // 18 23 LBLS RL
-    0x02440044, // 18 24 LBCC RL
-    0x02540044, // 18 25 LBCS RL
-    0x02640044, // 18 26 LBNE RL
-    0x02740044, // 18 27 LBEQ RL
-    0x02840044, // 18 28 LBVC RL
-    0x02940044, // 18 29 LBVS RL
-    0x02A40044, // 18 2A LBPL RL
-    0x02B40044, // 18 2B LBMI RL
-    0x02C40044, // 18 2C LBGE RL
-    0x02D40044, // 18 2D LBLT RL
-    0x02E40044, // 18 2E LBGT RL
-    0x02F40044, // 18 2F LBLE RL
-    0x0D43002A, // 18 30 TRAP IH
-    0x0D43002A, // 18 31 TRAP IH
-    0x0D43002A, // 18 32 TRAP IH
-    0x0D43002A, // 18 33 TRAP IH
-    0x0D43002A, // 18 34 TRAP IH
-    0x0D43002A, // 18 35 TRAP IH
-    0x0D43002A, // 18 36 TRAP IH
-    0x0D43002A, // 18 37 TRAP IH
-    0x0D43002A, // 18 38 TRAP IH
-    0x0D43002A, // 18 39 TRAP IH
-    0x00550020, // 18 3A REV SP
-    0x00650020, // 18 3B REVW SP
-    0x00750020, // 18 3C WAV SP
-    0x11080E36, // 18 3D TBL ID
-    0x00830020, // 18 3E STOP IH
-    0x11180F3A, // 18 3F ETBL ID
-    0x0D43002A, // 18 40 TRAP IH
-    0x0D43002A, // 18 41 TRAP IH
-    0x0D43002A, // 18 42 TRAP IH
-    0x0D43002A, // 18 43 TRAP IH
-    0x0D43002A, // 18 44 TRAP IH
-    0x0D43002A, // 18 45 TRAP IH
-    0x0D43002A, // 18 46 TRAP IH
-    0x0D43002A, // 18 47 TRAP IH
-    0x0D43002A, // 18 48 TRAP IH
-    0x0D43002A, // 18 49 TRAP IH
-    0x0D43002A, // 18 4A TRAP IH
-    0x0D43002A, // 18 4B TRAP IH
-    0x0D43002A, // 18 4C TRAP IH
-    0x0D43002A, // 18 4D TRAP IH
-    0x0D43002A, // 18 4E TRAP IH
-    0x0D43002A, // 18 4F TRAP IH
-    0x0D43002A, // 18 50 TRAP IH
-    0x0D43002A, // 18 51 TRAP IH
-    0x0D43002A, // 18 52 TRAP IH
-    0x0D43002A, // 18 53 TRAP IH
-    0x0D43002A, // 18 54 TRAP IH
-    0x0D43002A, // 18 55 TRAP IH
-    0x0D43002A, // 18 56 TRAP IH
-    0x0D43002A, // 18 57 TRAP IH
-    0x0D43002A, // 18 58 TRAP IH
-    0x0D43002A, // 18 59 TRAP IH
-    0x0D43002A, // 18 5A TRAP IH
-    0x0D43002A, // 18 5B TRAP IH
-    0x0D43002A, // 18 5C TRAP IH
-    0x0D43002A, // 18 5D TRAP IH
-    0x0D43002A, // 18 5E TRAP IH
-    0x0D43002A, // 18 5F TRAP IH
-    0x0D43002A, // 18 60 TRAP IH
-    0x0D43002A, // 18 61 TRAP IH
-    0x0D43002A, // 18 62 TRAP IH
-    0x0D43002A, // 18 63 TRAP IH
-    0x0D43002A, // 18 64 TRAP IH
-    0x0D43002A, // 18 65 TRAP IH
-    0x0D43002A, // 18 66 TRAP IH
-    0x0D43002A, // 18 67 TRAP IH
-    0x0D43002A, // 18 68 TRAP IH
-    0x0D43002A, // 18 69 TRAP IH
-    0x0D43002A, // 18 6A TRAP IH
-    0x0D43002A, // 18 6B TRAP IH
-    0x0D43002A, // 18 6C TRAP IH
-    0x0D43002A, // 18 6D TRAP IH
-    0x0D43002A, // 18 6E TRAP IH
-    0x0D43002A, // 18 6F TRAP IH
-    0x0D43002A, // 18 70 TRAP IH
-    0x0D43002A, // 18 71 TRAP IH
-    0x0D43002A, // 18 72 TRAP IH
-    0x0D43002A, // 18 73 TRAP IH
-    0x0D43002A, // 18 74 TRAP IH
-    0x0D43002A, // 18 75 TRAP IH
-    0x0D43002A, // 18 76 TRAP IH
-    0x0D43002A, // 18 77 TRAP IH
-    0x0D43002A, // 18 78 TRAP IH
-    0x0D43002A, // 18 79 TRAP IH
-    0x0D43002A, // 18 7A TRAP IH
-    0x0D43002A, // 18 7B TRAP IH
-    0x0D43002A, // 18 7C TRAP IH
-    0x0D43002A, // 18 7D TRAP IH
-    0x0D43002A, // 18 7E TRAP IH
-    0x0D43002A, // 18 7F TRAP IH
-    0x0D43002A, // 18 80 TRAP IH
-    0x0D43002A, // 18 81 TRAP IH
-    0x0D43002A, // 18 82 TRAP IH
-    0x0D43002A, // 18 83 TRAP IH
-    0x0D43002A, // 18 84 TRAP IH
-    0x0D43002A, // 18 85 TRAP IH
-    0x0D43002A, // 18 86 TRAP IH
-    0x0D43002A, // 18 87 TRAP IH
-    0x0D43002A, // 18 88 TRAP IH
-    0x0D43002A, // 18 89 TRAP IH
-    0x0D43002A, // 18 8A TRAP IH
-    0x0D43002A, // 18 8B TRAP IH
-    0x0D43002A, // 18 8C TRAP IH
-    0x0D43002A, // 18 8D TRAP IH
-    0x0D43002A, // 18 8E TRAP IH
-    0x0D43002A, // 18 8F TRAP IH
-    0x0D43002A, // 18 90 TRAP IH
-    0x0D43002A, // 18 91 TRAP IH
-    0x0D43002A, // 18 92 TRAP IH
-    0x0D43002A, // 18 93 TRAP IH
-    0x0D43002A, // 18 94 TRAP IH
-    0x0D43002A, // 18 95 TRAP IH
-    0x0D43002A, // 18 96 TRAP IH
-    0x0D43002A, // 18 97 TRAP IH
-    0x0D43002A, // 18 98 TRAP IH
-    0x0D43002A, // 18 99 TRAP IH
-    0x0D43002A, // 18 9A TRAP IH
-    0x0D43002A, // 18 9B TRAP IH
-    0x0D43002A, // 18 9C TRAP IH
-    0x0D43002A, // 18 9D TRAP IH
-    0x0D43002A, // 18 9E TRAP IH
-    0x0D43002A, // 18 9F TRAP IH
-    0x0D43002A, // 18 A0 TRAP IH
-    0x0D43002A, // 18 A1 TRAP IH
-    0x0D43002A, // 18 A2 TRAP IH
-    0x0D43002A, // 18 A3 TRAP IH
-    0x0D43002A, // 18 A4 TRAP IH
-    0x0D43002A, // 18 A5 TRAP IH
-    0x0D43002A, // 18 A6 TRAP IH
-    0x0D43002A, // 18 A7 TRAP IH
-    0x0D43002A, // 18 A8 TRAP IH
-    0x0D43002A, // 18 A9 TRAP IH
-    0x0D43002A, // 18 AA TRAP IH
-    0x0D43002A, // 18 AB TRAP IH
-    0x0D43002A, // 18 AC TRAP IH
-    0x0D43002A, // 18 AD TRAP IH
-    0x0D43002A, // 18 AE TRAP IH
-    0x0D43002A, // 18 AF TRAP IH
-    0x0D43002A, // 18 B0 TRAP IH
-    0x0D43002A, // 18 B1 TRAP IH
-    0x0D43002A, // 18 B2 TRAP IH
-    0x0D43002A, // 18 B3 TRAP IH
-    0x0D43002A, // 18 B4 TRAP IH
-    0x0D43002A, // 18 B5 TRAP IH
-    0x0D43002A, // 18 B6 TRAP IH
-    0x0D43002A, // 18 B7 TRAP IH
-    0x0D43002A, // 18 B8 TRAP IH
-    0x0D43002A, // 18 B9 TRAP IH
-    0x0D43002A, // 18 BA TRAP IH
-    0x0D43002A, // 18 BB TRAP IH
-    0x0D43002A, // 18 BC TRAP IH
-    0x0D43002A, // 18 BD TRAP IH
-    0x0D43002A, // 18 BE TRAP IH
-    0x0D43002A, // 18 BF TRAP IH
-    0x0D43002A, // 18 C0 TRAP IH
-    0x0D43002A, // 18 C1 TRAP IH
-    0x0D43002A, // 18 C2 TRAP IH
-    0x0D43002A, // 18 C3 TRAP IH
-    0x0D43002A, // 18 C4 TRAP IH
-    0x0D43002A, // 18 C5 TRAP IH
-    0x0D43002A, // 18 C6 TRAP IH
-    0x0D43002A, // 18 C7 TRAP IH
-    0x0D43002A, // 18 C8 TRAP IH
-    0x0D43002A, // 18 C9 TRAP IH
-    0x0D43002A, // 18 CA TRAP IH
-    0x0D43002A, // 18 CB TRAP IH
-    0x0D43002A, // 18 CC TRAP IH
-    0x0D43002A, // 18 CD TRAP IH
-    0x0D43002A, // 18 CE TRAP IH
-    0x0D43002A, // 18 CF TRAP IH
-    0x0D43002A, // 18 D0 TRAP IH
-    0x0D43002A, // 18 D1 TRAP IH
-    0x0D43002A, // 18 D2 TRAP IH
-    0x0D43002A, // 18 D3 TRAP IH
-    0x0D43002A, // 18 D4 TRAP IH
-    0x0D43002A, // 18 D5 TRAP IH
-    0x0D43002A, // 18 D6 TRAP IH
-    0x0D43002A, // 18 D7 TRAP IH
-    0x0D43002A, // 18 D8 TRAP IH
-    0x0D43002A, // 18 D9 TRAP IH
-    0x0D43002A, // 18 DA TRAP IH
-    0x0D43002A, // 18 DB TRAP IH
-    0x0D43002A, // 18 DC TRAP IH
-    0x0D43002A, // 18 DD TRAP IH
-    0x0D43002A, // 18 DE TRAP IH
-    0x0D43002A, // 18 DF TRAP IH
-    0x0D43002A, // 18 E0 TRAP IH
-    0x0D43002A, // 18 E1 TRAP IH
-    0x0D43002A, // 18 E2 TRAP IH
-    0x0D43002A, // 18 E3 TRAP IH
-    0x0D43002A, // 18 E4 TRAP IH
-    0x0D43002A, // 18 E5 TRAP IH
-    0x0D43002A, // 18 E6 TRAP IH
-    0x0D43002A, // 18 E7 TRAP IH
-    0x0D43002A, // 18 E8 TRAP IH
-    0x0D43002A, // 18 E9 TRAP IH
-    0x0D43002A, // 18 EA TRAP IH
-    0x0D43002A, // 18 EB TRAP IH
-    0x0D43002A, // 18 EC TRAP IH
-    0x0D43002A, // 18 ED TRAP IH
-    0x0D43002A, // 18 EE TRAP IH
-    0x0D43002A, // 18 EF TRAP IH
-    0x0D43002A, // 18 F0 TRAP IH
-    0x0D43002A, // 18 F1 TRAP IH
-    0x0D43002A, // 18 F2 TRAP IH
-    0x0D43002A, // 18 F3 TRAP IH
-    0x0D43002A, // 18 F4 TRAP IH
-    0x0D43002A, // 18 F5 TRAP IH
-    0x0D43002A, // 18 F6 TRAP IH
-    0x0D43002A, // 18 F7 TRAP IH
-    0x0D43002A, // 18 F8 TRAP IH
-    0x0D43002A, // 18 F9 TRAP IH
-    0x0D43002A, // 18 FA TRAP IH
-    0x0D43002A, // 18 FB TRAP IH
-    0x0D43002A, // 18 FC TRAP IH
-    0x0D43002A, // 18 FD TRAP IH
-    0x0D43002A, // 18 FE TRAP IH
-    0x0D43002A, // 18 FF TRAP IH
+// Page 1 and then page 2, cell by cell.
+static MAP: [Cell; 512] = [
+    cell!(Stops(Stopping::Bgnd), Ih, Own, 1, 0), // 00 BGND IH
+    cell!(Stops(Stopping::Mem), Ih, Own, 1, 0), // 01 MEM IH
+    cell!(Registers(RegisterOp::Iny), Ih, Own, 1, 1), // 02 INY IH
+    cell!(Registers(RegisterOp::Dey), Ih, Own, 1, 1), // 03 DEY IH
+    cell!(Control(ControlOp::Loop), Rl, Own, 3, 3), // 04 LOOP RL
+    cell!(Address(AddressOp::Jmp), Id, Jump, 2, 3), // 05 JMP ID
+    cell!(Address(AddressOp::Jmp), Ex, Jump, 3, 3), // 06 JMP EX
+    cell!(Control(ControlOp::Bsr), Rl, Own, 2, 4), // 07 BSR RL
+    cell!(Registers(RegisterOp::Inx), Ih, Own, 1, 1), // 08 INX IH
+    cell!(Registers(RegisterOp::Dex), Ih, Own, 1, 1), // 09 DEX IH
+    cell!(Stops(Stopping::Rtc), Ih, Own, 1, 0), // 0A RTC IH
+    cell!(Control(ControlOp::Rti), Ih, Own, 1, 8), // 0B RTI IH
+    cell!(Bits(BitOp::Bset), Id, BitChange, 3, 4), // 0C BSET ID
+    cell!(Bits(BitOp::Bclr), Id, BitChange, 3, 4), // 0D BCLR ID
+    cell!(Bits(BitOp::Brset), Id, BitBranch, 4, 4), // 0E BRSET ID
+    cell!(Bits(BitOp::Brclr), Id, BitBranch, 4, 4), // 0F BRCLR ID
+    cell!(Registers(RegisterOp::Andcc), Im, Own, 2, 1), // 10 ANDCC IM
+    cell!(Product(ProductOp::Ediv), Ih, Own, 1, 11), // 11 EDIV IH
+    cell!(Product(ProductOp::Mul), Ih, Own, 1, 1), // 12 MUL IH
+    cell!(Product(ProductOp::Emul), Ih, Own, 1, 3), // 13 EMUL IH
+    cell!(Registers(RegisterOp::Orcc), Im, Own, 2, 1), // 14 ORCC IM
+    cell!(Address(AddressOp::Jsr), Id, Subroutine, 2, 4), // 15 JSR ID
+    cell!(Address(AddressOp::Jsr), Ex, Subroutine, 3, 4), // 16 JSR EX
+    cell!(Address(AddressOp::Jsr), Di, Subroutine, 2, 4), // 17 JSR DI
+    cell!(Prebyte, Ih, Own, 1, 0), // 18 PAGE2 IH
+    cell!(Address(AddressOp::Leay), Id, Address, 2, 2), // 19 LEAY ID
+    cell!(Address(AddressOp::Leax), Id, Address, 2, 2), // 1A LEAX ID
+    cell!(Address(AddressOp::Leas), Id, Address, 2, 2), // 1B LEAS ID
+    cell!(Bits(BitOp::Bset), Ex, BitChange, 4, 4), // 1C BSET EX
+    cell!(Bits(BitOp::Bclr), Ex, BitChange, 4, 4), // 1D BCLR EX
+    cell!(Bits(BitOp::Brset), Ex, BitBranch, 5, 5), // 1E BRSET EX
+    cell!(Bits(BitOp::Brclr), Ex, BitBranch, 5, 5), // 1F BRCLR EX
+    cell!(ShortBranch(Condition::Ra), Rl, Own, 2, 3), // 20 BRA RL
+    cell!(ShortBranch(Condition::Rn), Rl, Own, 2, 1), // 21 BRN RL
+    cell!(ShortBranch(Condition::Hi), Rl, Own, 2, 3), // 22 BHI RL
+    cell!(ShortBranch(Condition::Ls), Rl, Own, 2, 3), // 23 BLS RL
+    cell!(ShortBranch(Condition::Cc), Rl, Own, 2, 3), // 24 BCC RL
+    cell!(ShortBranch(Condition::Cs), Rl, Own, 2, 3), // 25 BCS RL
+    cell!(ShortBranch(Condition::Ne), Rl, Own, 2, 3), // 26 BNE RL
+    cell!(ShortBranch(Condition::Eq), Rl, Own, 2, 3), // 27 BEQ RL
+    cell!(ShortBranch(Condition::Vc), Rl, Own, 2, 3), // 28 BVC RL
+    cell!(ShortBranch(Condition::Vs), Rl, Own, 2, 3), // 29 BVS RL
+    cell!(ShortBranch(Condition::Pl), Rl, Own, 2, 3), // 2A BPL RL
+    cell!(ShortBranch(Condition::Mi), Rl, Own, 2, 3), // 2B BMI RL
+    cell!(ShortBranch(Condition::Ge), Rl, Own, 2, 3), // 2C BGE RL
+    cell!(ShortBranch(Condition::Lt), Rl, Own, 2, 3), // 2D BLT RL
+    cell!(ShortBranch(Condition::Gt), Rl, Own, 2, 3), // 2E BGT RL
+    cell!(ShortBranch(Condition::Le), Rl, Own, 2, 3), // 2F BLE RL
+    cell!(Stack(StackOp::Pulx), Ih, Own, 1, 3), // 30 PULX IH
+    cell!(Stack(StackOp::Puly), Ih, Own, 1, 3), // 31 PULY IH
+    cell!(Stack(StackOp::Pula), Ih, Own, 1, 3), // 32 PULA IH
+    cell!(Stack(StackOp::Pulb), Ih, Own, 1, 3), // 33 PULB IH
+    cell!(Stack(StackOp::Pshx), Ih, Own, 1, 2), // 34 PSHX IH
+    cell!(Stack(StackOp::Pshy), Ih, Own, 1, 2), // 35 PSHY IH
+    cell!(Stack(StackOp::Psha), Ih, Own, 1, 2), // 36 PSHA IH
+    cell!(Stack(StackOp::Pshb), Ih, Own, 1, 2), // 37 PSHB IH
+    cell!(Stack(StackOp::Pulc), Ih, Own, 1, 3), // 38 PULC IH
+    cell!(Stack(StackOp::Pshc), Ih, Own, 1, 2), // 39 PSHC IH
+    cell!(Stack(StackOp::Puld), Ih, Own, 1, 3), // 3A PULD IH
+    cell!(Stack(StackOp::Pshd), Ih, Own, 1, 2), // 3B PSHD IH
+    cell!(Stops(Stopping::Wavr), Sp, Own, 1, 0), // 3C wavr SP
+    cell!(Control(ControlOp::Rts), Ih, Own, 1, 5), // 3D RTS IH
+    cell!(Control(ControlOp::Wai), Ih, Own, 1, 7), // 3E WAI IH
+    cell!(Control(ControlOp::Swi), Ih, Own, 1, 9), // 3F SWI IH
+    cell!(InA(Change::Neg), Ih, Own, 1, 1), // 40 NEGA IH
+    cell!(InA(Change::Com), Ih, Own, 1, 1), // 41 COMA IH
+    cell!(InA(Change::Inc), Ih, Own, 1, 1), // 42 INCA IH
+    cell!(InA(Change::Dec), Ih, Own, 1, 1), // 43 DECA IH
+    cell!(InA(Change::Lsr), Ih, Own, 1, 1), // 44 LSRA IH
+    cell!(InA(Change::Rol), Ih, Own, 1, 1), // 45 ROLA IH
+    cell!(InA(Change::Ror), Ih, Own, 1, 1), // 46 RORA IH
+    cell!(InA(Change::Asr), Ih, Own, 1, 1), // 47 ASRA IH
+    cell!(InA(Change::Asl), Ih, Own, 1, 1), // 48 ASLA IH
+    cell!(Registers(RegisterOp::Lsrd), Ih, Own, 1, 1), // 49 LSRD IH
+    cell!(Stops(Stopping::Call), Ex, Own, 4, 0), // 4A CALL EX
+    cell!(Stops(Stopping::Call), Id, Own, 3, 0), // 4B CALL ID
+    cell!(Bits(BitOp::Bset), Di, BitChange, 3, 4), // 4C BSET DI
+    cell!(Bits(BitOp::Bclr), Di, BitChange, 3, 4), // 4D BCLR DI
+    cell!(Bits(BitOp::Brset), Di, BitBranch, 4, 4), // 4E BRSET DI
+    cell!(Bits(BitOp::Brclr), Di, BitBranch, 4, 4), // 4F BRCLR DI
+    cell!(InB(Change::Neg), Ih, Own, 1, 1), // 50 NEGB IH
+    cell!(InB(Change::Com), Ih, Own, 1, 1), // 51 COMB IH
+    cell!(InB(Change::Inc), Ih, Own, 1, 1), // 52 INCB IH
+    cell!(InB(Change::Dec), Ih, Own, 1, 1), // 53 DECB IH
+    cell!(InB(Change::Lsr), Ih, Own, 1, 1), // 54 LSRB IH
+    cell!(InB(Change::Rol), Ih, Own, 1, 1), // 55 ROLB IH
+    cell!(InB(Change::Ror), Ih, Own, 1, 1), // 56 RORB IH
+    cell!(InB(Change::Asr), Ih, Own, 1, 1), // 57 ASRB IH
+    cell!(InB(Change::Asl), Ih, Own, 1, 1), // 58 ASLB IH
+    cell!(Registers(RegisterOp::Asld), Ih, Own, 1, 1), // 59 ASLD IH
+    cell!(Store(StoreOp::Staa), Di, Store, 2, 2), // 5A STAA DI
+    cell!(Store(StoreOp::Stab), Di, Store, 2, 2), // 5B STAB DI
+    cell!(Store(StoreOp::Std), Di, Store, 2, 2), // 5C STD DI
+    cell!(Store(StoreOp::Sty), Di, Store, 2, 2), // 5D STY DI
+    cell!(Store(StoreOp::Stx), Di, Store, 2, 2), // 5E STX DI
+    cell!(Store(StoreOp::Sts), Di, Store, 2, 2), // 5F STS DI
+    cell!(InMemory(Change::Neg), Id, Modify, 2, 3), // 60 NEG ID
+    cell!(InMemory(Change::Com), Id, Modify, 2, 3), // 61 COM ID
+    cell!(InMemory(Change::Inc), Id, Modify, 2, 3), // 62 INC ID
+    cell!(InMemory(Change::Dec), Id, Modify, 2, 3), // 63 DEC ID
+    cell!(InMemory(Change::Lsr), Id, Modify, 2, 3), // 64 LSR ID
+    cell!(InMemory(Change::Rol), Id, Modify, 2, 3), // 65 ROL ID
+    cell!(InMemory(Change::Ror), Id, Modify, 2, 3), // 66 ROR ID
+    cell!(InMemory(Change::Asr), Id, Modify, 2, 3), // 67 ASR ID
+    cell!(InMemory(Change::Asl), Id, Modify, 2, 3), // 68 ASL ID
+    cell!(InMemory(Change::Clr), Id, Clear, 2, 2), // 69 CLR ID
+    cell!(Store(StoreOp::Staa), Id, Store, 2, 2), // 6A STAA ID
+    cell!(Store(StoreOp::Stab), Id, Store, 2, 2), // 6B STAB ID
+    cell!(Store(StoreOp::Std), Id, Store, 2, 2), // 6C STD ID
+    cell!(Store(StoreOp::Sty), Id, Store, 2, 2), // 6D STY ID
+    cell!(Store(StoreOp::Stx), Id, Store, 2, 2), // 6E STX ID
+    cell!(Store(StoreOp::Sts), Id, Store, 2, 2), // 6F STS ID
+    cell!(InMemory(Change::Neg), Ex, Modify, 3, 4), // 70 NEG EX
+    cell!(InMemory(Change::Com), Ex, Modify, 3, 4), // 71 COM EX
+    cell!(InMemory(Change::Inc), Ex, Modify, 3, 4), // 72 INC EX
+    cell!(InMemory(Change::Dec), Ex, Modify, 3, 4), // 73 DEC EX
+    cell!(InMemory(Change::Lsr), Ex, Modify, 3, 4), // 74 LSR EX
+    cell!(InMemory(Change::Rol), Ex, Modify, 3, 4), // 75 ROL EX
+    cell!(InMemory(Change::Ror), Ex, Modify, 3, 4), // 76 ROR EX
+    cell!(InMemory(Change::Asr), Ex, Modify, 3, 4), // 77 ASR EX
+    cell!(InMemory(Change::Asl), Ex, Modify, 3, 4), // 78 ASL EX
+    cell!(InMemory(Change::Clr), Ex, Clear, 3, 3), // 79 CLR EX
+    cell!(Store(StoreOp::Staa), Ex, Store, 3, 3), // 7A STAA EX
+    cell!(Store(StoreOp::Stab), Ex, Store, 3, 3), // 7B STAB EX
+    cell!(Store(StoreOp::Std), Ex, Store, 3, 3), // 7C STD EX
+    cell!(Store(StoreOp::Sty), Ex, Store, 3, 3), // 7D STY EX
+    cell!(Store(StoreOp::Stx), Ex, Store, 3, 3), // 7E STX EX
+    cell!(Store(StoreOp::Sts), Ex, Store, 3, 3), // 7F STS EX
+    cell!(WithA(ByteOp::Sub), Im, Byte, 2, 1), // 80 SUBA IM
+    cell!(WithA(ByteOp::Cmp), Im, Byte, 2, 1), // 81 CMPA IM
+    cell!(WithA(ByteOp::Sbc), Im, Byte, 2, 1), // 82 SBCA IM
+    cell!(WithWord(WordOp::Subd), Im, Word, 3, 2), // 83 SUBD IM
+    cell!(WithA(ByteOp::And), Im, Byte, 2, 1), // 84 ANDA IM
+    cell!(WithA(ByteOp::Bit), Im, Byte, 2, 1), // 85 BITA IM
+    cell!(WithA(ByteOp::Ld), Im, Byte, 2, 1), // 86 LDAA IM
+    cell!(InA(Change::Clr), Ih, Own, 1, 1), // 87 CLRA IH
+    cell!(WithA(ByteOp::Eor), Im, Byte, 2, 1), // 88 EORA IM
+    cell!(WithA(ByteOp::Adc), Im, Byte, 2, 1), // 89 ADCA IM
+    cell!(WithA(ByteOp::Or), Im, Byte, 2, 1), // 8A ORAA IM
+    cell!(WithA(ByteOp::Add), Im, Byte, 2, 1), // 8B ADDA IM
+    cell!(WithWord(WordOp::Cpd), Im, Word, 3, 2), // 8C CPD IM
+    cell!(WithWord(WordOp::Cpy), Im, Word, 3, 2), // 8D CPY IM
+    cell!(WithWord(WordOp::Cpx), Im, Word, 3, 2), // 8E CPX IM
+    cell!(WithWord(WordOp::Cps), Im, Word, 3, 2), // 8F CPS IM
+    cell!(WithA(ByteOp::Sub), Di, Byte, 2, 3), // 90 SUBA DI
+    cell!(WithA(ByteOp::Cmp), Di, Byte, 2, 3), // 91 CMPA DI
+    cell!(WithA(ByteOp::Sbc), Di, Byte, 2, 3), // 92 SBCA DI
+    cell!(WithWord(WordOp::Subd), Di, Word, 2, 3), // 93 SUBD DI
+    cell!(WithA(ByteOp::And), Di, Byte, 2, 3), // 94 ANDA DI
+    cell!(WithA(ByteOp::Bit), Di, Byte, 2, 3), // 95 BITA DI
+    cell!(WithA(ByteOp::Ld), Di, Byte, 2, 3), // 96 LDAA DI
+    cell!(InA(Change::Tst), Ih, Own, 1, 1), // 97 TSTA IH
+    cell!(WithA(ByteOp::Eor), Di, Byte, 2, 3), // 98 EORA DI
+    cell!(WithA(ByteOp::Adc), Di, Byte, 2, 3), // 99 ADCA DI
+    cell!(WithA(ByteOp::Or), Di, Byte, 2, 3), // 9A ORAA DI
+    cell!(WithA(ByteOp::Add), Di, Byte, 2, 3), // 9B ADDA DI
+    cell!(WithWord(WordOp::Cpd), Di, Word, 2, 3), // 9C CPD DI
+    cell!(WithWord(WordOp::Cpy), Di, Word, 2, 3), // 9D CPY DI
+    cell!(WithWord(WordOp::Cpx), Di, Word, 2, 3), // 9E CPX DI
+    cell!(WithWord(WordOp::Cps), Di, Word, 2, 3), // 9F CPS DI
+    cell!(WithA(ByteOp::Sub), Id, Byte, 2, 3), // A0 SUBA ID
+    cell!(WithA(ByteOp::Cmp), Id, Byte, 2, 3), // A1 CMPA ID
+    cell!(WithA(ByteOp::Sbc), Id, Byte, 2, 3), // A2 SBCA ID
+    cell!(WithWord(WordOp::Subd), Id, Word, 2, 3), // A3 SUBD ID
+    cell!(WithA(ByteOp::And), Id, Byte, 2, 3), // A4 ANDA ID
+    cell!(WithA(ByteOp::Bit), Id, Byte, 2, 3), // A5 BITA ID
+    cell!(WithA(ByteOp::Ld), Id, Byte, 2, 3), // A6 LDAA ID
+    cell!(Registers(RegisterOp::Nop), Ih, Own, 1, 1), // A7 NOP IH
+    cell!(WithA(ByteOp::Eor), Id, Byte, 2, 3), // A8 EORA ID
+    cell!(WithA(ByteOp::Adc), Id, Byte, 2, 3), // A9 ADCA ID
+    cell!(WithA(ByteOp::Or), Id, Byte, 2, 3), // AA ORAA ID
+    cell!(WithA(ByteOp::Add), Id, Byte, 2, 3), // AB ADDA ID
+    cell!(WithWord(WordOp::Cpd), Id, Word, 2, 3), // AC CPD ID
+    cell!(WithWord(WordOp::Cpy), Id, Word, 2, 3), // AD CPY ID
+    cell!(WithWord(WordOp::Cpx), Id, Word, 2, 3), // AE CPX ID
+    cell!(WithWord(WordOp::Cps), Id, Word, 2, 3), // AF CPS ID
+    cell!(WithA(ByteOp::Sub), Ex, Byte, 3, 3), // B0 SUBA EX
+    cell!(WithA(ByteOp::Cmp), Ex, Byte, 3, 3), // B1 CMPA EX
+    cell!(WithA(ByteOp::Sbc), Ex, Byte, 3, 3), // B2 SBCA EX
+    cell!(WithWord(WordOp::Subd), Ex, Word, 3, 3), // B3 SUBD EX
+    cell!(WithA(ByteOp::And), Ex, Byte, 3, 3), // B4 ANDA EX
+    cell!(WithA(ByteOp::Bit), Ex, Byte, 3, 3), // B5 BITA EX
+    cell!(WithA(ByteOp::Ld), Ex, Byte, 3, 3), // B6 LDAA EX
+    cell!(Registers(RegisterOp::TfrExg), Ih, Own, 2, 1), // B7 TFR/EXG IH
+    cell!(WithA(ByteOp::Eor), Ex, Byte, 3, 3), // B8 EORA EX
+    cell!(WithA(ByteOp::Adc), Ex, Byte, 3, 3), // B9 ADCA EX
+    cell!(WithA(ByteOp::Or), Ex, Byte, 3, 3), // BA ORAA EX
+    cell!(WithA(ByteOp::Add), Ex, Byte, 3, 3), // BB ADDA EX
+    cell!(WithWord(WordOp::Cpd), Ex, Word, 3, 3), // BC CPD EX
+    cell!(WithWord(WordOp::Cpy), Ex, Word, 3, 3), // BD CPY EX
+    cell!(WithWord(WordOp::Cpx), Ex, Word, 3, 3), // BE CPX EX
+    cell!(WithWord(WordOp::Cps), Ex, Word, 3, 3), // BF CPS EX
+    cell!(WithB(ByteOp::Sub), Im, Byte, 2, 1), // C0 SUBB IM
+    cell!(WithB(ByteOp::Cmp), Im, Byte, 2, 1), // C1 CMPB IM
+    cell!(WithB(ByteOp::Sbc), Im, Byte, 2, 1), // C2 SBCB IM
+    cell!(WithWord(WordOp::Addd), Im, Word, 3, 2), // C3 ADDD IM
+    cell!(WithB(ByteOp::And), Im, Byte, 2, 1), // C4 ANDB IM
+    cell!(WithB(ByteOp::Bit), Im, Byte, 2, 1), // C5 BITB IM
+    cell!(WithB(ByteOp::Ld), Im, Byte, 2, 1), // C6 LDAB IM
+    cell!(InB(Change::Clr), Ih, Own, 1, 1), // C7 CLRB IH
+    cell!(WithB(ByteOp::Eor), Im, Byte, 2, 1), // C8 EORB IM
+    cell!(WithB(ByteOp::Adc), Im, Byte, 2, 1), // C9 ADCB IM
+    cell!(WithB(ByteOp::Or), Im, Byte, 2, 1), // CA ORAB IM
+    cell!(WithB(ByteOp::Add), Im, Byte, 2, 1), // CB ADDB IM
+    cell!(WithWord(WordOp::Ldd), Im, Word, 3, 2), // CC LDD IM
+    cell!(WithWord(WordOp::Ldy), Im, Word, 3, 2), // CD LDY IM
+    cell!(WithWord(WordOp::Ldx), Im, Word, 3, 2), // CE LDX IM
+    cell!(WithWord(WordOp::Lds), Im, Word, 3, 2), // CF LDS IM
+    cell!(WithB(ByteOp::Sub), Di, Byte, 2, 3), // D0 SUBB DI
+    cell!(WithB(ByteOp::Cmp), Di, Byte, 2, 3), // D1 CMPB DI
+    cell!(WithB(ByteOp::Sbc), Di, Byte, 2, 3), // D2 SBCB DI
+    cell!(WithWord(WordOp::Addd), Di, Word, 2, 3), // D3 ADDD DI
+    cell!(WithB(ByteOp::And), Di, Byte, 2, 3), // D4 ANDB DI
+    cell!(WithB(ByteOp::Bit), Di, Byte, 2, 3), // D5 BITB DI
+    cell!(WithB(ByteOp::Ld), Di, Byte, 2, 3), // D6 LDAB DI
+    cell!(InB(Change::Tst), Ih, Own, 1, 1), // D7 TSTB IH
+    cell!(WithB(ByteOp::Eor), Di, Byte, 2, 3), // D8 EORB DI
+    cell!(WithB(ByteOp::Adc), Di, Byte, 2, 3), // D9 ADCB DI
+    cell!(WithB(ByteOp::Or), Di, Byte, 2, 3), // DA ORAB DI
+    cell!(WithB(ByteOp::Add), Di, Byte, 2, 3), // DB ADDB DI
+    cell!(WithWord(WordOp::Ldd), Di, Word, 2, 3), // DC LDD DI
+    cell!(WithWord(WordOp::Ldy), Di, Word, 2, 3), // DD LDY DI
+    cell!(WithWord(WordOp::Ldx), Di, Word, 2, 3), // DE LDX DI
+    cell!(WithWord(WordOp::Lds), Di, Word, 2, 3), // DF LDS DI
+    cell!(WithB(ByteOp::Sub), Id, Byte, 2, 3), // E0 SUBB ID
+    cell!(WithB(ByteOp::Cmp), Id, Byte, 2, 3), // E1 CMPB ID
+    cell!(WithB(ByteOp::Sbc), Id, Byte, 2, 3), // E2 SBCB ID
+    cell!(WithWord(WordOp::Addd), Id, Word, 2, 3), // E3 ADDD ID
+    cell!(WithB(ByteOp::And), Id, Byte, 2, 3), // E4 ANDB ID
+    cell!(WithB(ByteOp::Bit), Id, Byte, 2, 3), // E5 BITB ID
+    cell!(WithB(ByteOp::Ld), Id, Byte, 2, 3), // E6 LDAB ID
+    cell!(InMemory(Change::Tst), Id, Test, 2, 3), // E7 TST ID
+    cell!(WithB(ByteOp::Eor), Id, Byte, 2, 3), // E8 EORB ID
+    cell!(WithB(ByteOp::Adc), Id, Byte, 2, 3), // E9 ADCB ID
+    cell!(WithB(ByteOp::Or), Id, Byte, 2, 3), // EA ORAB ID
+    cell!(WithB(ByteOp::Add), Id, Byte, 2, 3), // EB ADDB ID
+    cell!(WithWord(WordOp::Ldd), Id, Word, 2, 3), // EC LDD ID
+    cell!(WithWord(WordOp::Ldy), Id, Word, 2, 3), // ED LDY ID
+    cell!(WithWord(WordOp::Ldx), Id, Word, 2, 3), // EE LDX ID
+    cell!(WithWord(WordOp::Lds), Id, Word, 2, 3), // EF LDS ID
+    cell!(WithB(ByteOp::Sub), Ex, Byte, 3, 3), // F0 SUBB EX
+    cell!(WithB(ByteOp::Cmp), Ex, Byte, 3, 3), // F1 CMPB EX
+    cell!(WithB(ByteOp::Sbc), Ex, Byte, 3, 3), // F2 SBCB EX
+    cell!(WithWord(WordOp::Addd), Ex, Word, 3, 3), // F3 ADDD EX
+    cell!(WithB(ByteOp::And), Ex, Byte, 3, 3), // F4 ANDB EX
+    cell!(WithB(ByteOp::Bit), Ex, Byte, 3, 3), // F5 BITB EX
+    cell!(WithB(ByteOp::Ld), Ex, Byte, 3, 3), // F6 LDAB EX
+    cell!(InMemory(Change::Tst), Ex, Test, 3, 3), // F7 TST EX
+    cell!(WithB(ByteOp::Eor), Ex, Byte, 3, 3), // F8 EORB EX
+    cell!(WithB(ByteOp::Adc), Ex, Byte, 3, 3), // F9 ADCB EX
+    cell!(WithB(ByteOp::Or), Ex, Byte, 3, 3), // FA ORAB EX
+    cell!(WithB(ByteOp::Add), Ex, Byte, 3, 3), // FB ADDB EX
+    cell!(WithWord(WordOp::Ldd), Ex, Word, 3, 3), // FC LDD EX
+    cell!(WithWord(WordOp::Ldy), Ex, Word, 3, 3), // FD LDY EX
+    cell!(WithWord(WordOp::Ldx), Ex, Word, 3, 3), // FE LDX EX
+    cell!(WithWord(WordOp::Lds), Ex, Word, 3, 3), // FF LDS EX
+    cell!(Move(MoveOp::Movw), ImId, MoveIm, 5, 4), // 18 00 MOVW IM-ID
+    cell!(Move(MoveOp::Movw), ExId, MoveM, 5, 5), // 18 01 MOVW EX-ID
+    cell!(Move(MoveOp::Movw), IdId, MoveM, 4, 5), // 18 02 MOVW ID-ID
+    cell!(Move(MoveOp::Movw), ImEx, MoveM, 6, 5), // 18 03 MOVW IM-EX
+    cell!(Move(MoveOp::Movw), ExEx, MoveM, 6, 6), // 18 04 MOVW EX-EX
+    cell!(Move(MoveOp::Movw), IdEx, MoveM, 5, 5), // 18 05 MOVW ID-EX
+    cell!(Registers(RegisterOp::Aba), Ih, Own, 2, 2), // 18 06 ABA IH
+    cell!(Registers(RegisterOp::Daa), Ih, Own, 2, 3), // 18 07 DAA IH
+    cell!(Move(MoveOp::Movb), ImId, MoveIm, 4, 4), // 18 08 MOVB IM-ID
+    cell!(Move(MoveOp::Movb), ExId, MoveM, 5, 5), // 18 09 MOVB EX-ID
+    cell!(Move(MoveOp::Movb), IdId, MoveM, 4, 5), // 18 0A MOVB ID-ID
+    cell!(Move(MoveOp::Movb), ImEx, MoveM, 5, 4), // 18 0B MOVB IM-EX
+    cell!(Move(MoveOp::Movb), ExEx, MoveM, 6, 6), // 18 0C MOVB EX-EX
+    cell!(Move(MoveOp::Movb), IdEx, MoveM, 5, 5), // 18 0D MOVB ID-EX
+    cell!(Registers(RegisterOp::Tab), Ih, Own, 2, 2), // 18 0E TAB IH
+    cell!(Registers(RegisterOp::Tba), Ih, Own, 2, 2), // 18 0F TBA IH
+    cell!(Product(ProductOp::Idiv), Ih, Own, 2, 12), // 18 10 IDIV IH
+    cell!(Product(ProductOp::Fdiv), Ih, Own, 2, 12), // 18 11 FDIV IH
+    cell!(Product(ProductOp::Emacs), Sp, Own, 4, 13), // 18 12 EMACS SP
+    cell!(Product(ProductOp::Emuls), Ih, Own, 2, 3), // 18 13 EMULS IH
+    cell!(Product(ProductOp::Edivs), Ih, Own, 2, 12), // 18 14 EDIVS IH
+    cell!(Product(ProductOp::Idivs), Ih, Own, 2, 12), // 18 15 IDIVS IH
+    cell!(Registers(RegisterOp::Sba), Ih, Own, 2, 2), // 18 16 SBA IH
+    cell!(Registers(RegisterOp::Cba), Ih, Own, 2, 2), // 18 17 CBA IH
+    cell!(Choose(Choice::Maxa), Id, Choose, 3, 4), // 18 18 MAXA ID
+    cell!(Choose(Choice::Mina), Id, Choose, 3, 4), // 18 19 MINA ID
+    cell!(Choose(Choice::Emaxd), Id, Choose, 3, 4), // 18 1A EMAXD ID
+    cell!(Choose(Choice::Emind), Id, Choose, 3, 4), // 18 1B EMIND ID
+    cell!(Choose(Choice::Maxm), Id, ChooseM, 3, 4), // 18 1C MAXM ID
+    cell!(Choose(Choice::Minm), Id, ChooseM, 3, 4), // 18 1D MINM ID
+    cell!(Choose(Choice::Emaxm), Id, ChooseM, 3, 4), // 18 1E EMAXM ID
+    cell!(Choose(Choice::Eminm), Id, ChooseM, 3, 4), // 18 1F EMINM ID
+    cell!(LongBranch(Condition::Ra), Rl, Own, 4, 4), // 18 20 LBRA RL
+    cell!(LongBranch(Condition::Rn), Rl, Own, 4, 3), // 18 21 LBRN RL
+    cell!(LongBranch(Condition::Hi), Rl, Own, 4, 4), // 18 22 LBHI RL
+    cell!(LongBranch(Condition::Ls), Rl, Own, 4, 4), // 18 23 LBLS RL
+    cell!(LongBranch(Condition::Cc), Rl, Own, 4, 4), // 18 24 LBCC RL
+    cell!(LongBranch(Condition::Cs), Rl, Own, 4, 4), // 18 25 LBCS RL
+    cell!(LongBranch(Condition::Ne), Rl, Own, 4, 4), // 18 26 LBNE RL
+    cell!(LongBranch(Condition::Eq), Rl, Own, 4, 4), // 18 27 LBEQ RL
+    cell!(LongBranch(Condition::Vc), Rl, Own, 4, 4), // 18 28 LBVC RL
+    cell!(LongBranch(Condition::Vs), Rl, Own, 4, 4), // 18 29 LBVS RL
+    cell!(LongBranch(Condition::Pl), Rl, Own, 4, 4), // 18 2A LBPL RL
+    cell!(LongBranch(Condition::Mi), Rl, Own, 4, 4), // 18 2B LBMI RL
+    cell!(LongBranch(Condition::Ge), Rl, Own, 4, 4), // 18 2C LBGE RL
+    cell!(LongBranch(Condition::Lt), Rl, Own, 4, 4), // 18 2D LBLT RL
+    cell!(LongBranch(Condition::Gt), Rl, Own, 4, 4), // 18 2E LBGT RL
+    cell!(LongBranch(Condition::Le), Rl, Own, 4, 4), // 18 2F LBLE RL
+    cell!(Control(ControlOp::Trap), Ih, Own, 2, 10), // 18 30 TRAP IH
+    cell!(Control(ControlOp::Trap), Ih, Own, 2, 10), // 18 31 TRAP IH
+    cell!(Control(ControlOp::Trap), Ih, Own, 2, 10), // 18 32 TRAP IH
+    cell!(Control(ControlOp::Trap), Ih, Own, 2, 10), // 18 33 TRAP IH
+    cell!(Control(ControlOp::Trap), Ih, Own, 2, 10), // 18 34 TRAP IH
+    cell!(Control(ControlOp::Trap), Ih, Own, 2, 10), // 18 35 TRAP IH
+    cell!(Control(ControlOp::Trap), Ih, Own, 2, 10), // 18 36 TRAP IH
+    cell!(Control(ControlOp::Trap), Ih, Own, 2, 10), // 18 37 TRAP IH
+    cell!(Control(ControlOp::Trap), Ih, Own, 2, 10), // 18 38 TRAP IH
+    cell!(Control(ControlOp::Trap), Ih, Own, 2, 10), // 18 39 TRAP IH
+    cell!(Stops(Stopping::Rev), Sp, Own, 2, 0), // 18 3A REV SP
+    cell!(Stops(Stopping::Revw), Sp, Own, 2, 0), // 18 3B REVW SP
+    cell!(Stops(Stopping::Wav), Sp, Own, 2, 0), // 18 3C WAV SP
+    cell!(LookUp(Lookup::Tbl), Id, Lookup, 3, 6), // 18 3D TBL ID
+    cell!(Stops(Stopping::Stop), Ih, Own, 2, 0), // 18 3E STOP IH
+    cell!(LookUp(Lookup::Etbl), Id, LookupW, 3, 10), // 18 3F ETBL ID
+    cell!(Control(ControlOp::Trap), Ih, Own, 2, 10), // 18 40 TRAP IH
+    cell!(Control(ControlOp::Trap), Ih, Own, 2, 10), // 18 41 TRAP IH
+    cell!(Control(ControlOp::Trap), Ih, Own, 2, 10), // 18 42 TRAP IH
+    cell!(Control(ControlOp::Trap), Ih, Own, 2, 10), // 18 43 TRAP IH
+    cell!(Control(ControlOp::Trap), Ih, Own, 2, 10), // 18 44 TRAP IH
+    cell!(Control(ControlOp::Trap), Ih, Own, 2, 10), // 18 45 TRAP IH
+    cell!(Control(ControlOp::Trap), Ih, Own, 2, 10), // 18 46 TRAP IH
+    cell!(Control(ControlOp::Trap), Ih, Own, 2, 10), // 18 47 TRAP IH
+    cell!(Control(ControlOp::Trap), Ih, Own, 2, 10), // 18 48 TRAP IH
+    cell!(Control(ControlOp::Trap), Ih, Own, 2, 10), // 18 49 TRAP IH
+    cell!(Control(ControlOp::Trap), Ih, Own, 2, 10), // 18 4A TRAP IH
+    cell!(Control(ControlOp::Trap), Ih, Own, 2, 10), // 18 4B TRAP IH
+    cell!(Control(ControlOp::Trap), Ih, Own, 2, 10), // 18 4C TRAP IH
+    cell!(Control(ControlOp::Trap), Ih, Own, 2, 10), // 18 4D TRAP IH
+    cell!(Control(ControlOp::Trap), Ih, Own, 2, 10), // 18 4E TRAP IH
+    cell!(Control(ControlOp::Trap), Ih, Own, 2, 10), // 18 4F TRAP IH
+    cell!(Control(ControlOp::Trap), Ih, Own, 2, 10), // 18 50 TRAP IH
+    cell!(Control(ControlOp::Trap), Ih, Own, 2, 10), // 18 51 TRAP IH
+    cell!(Control(ControlOp::Trap), Ih, Own, 2, 10), // 18 52 TRAP IH
+    cell!(Control(ControlOp::Trap), Ih, Own, 2, 10), // 18 53 TRAP IH
+    cell!(Control(ControlOp::Trap), Ih, Own, 2, 10), // 18 54 TRAP IH
+    cell!(Control(ControlOp::Trap), Ih, Own, 2, 10), // 18 55 TRAP IH
+    cell!(Control(ControlOp::Trap), Ih, Own, 2, 10), // 18 56 TRAP IH
+    cell!(Control(ControlOp::Trap), Ih, Own, 2, 10), // 18 57 TRAP IH
+    cell!(Control(ControlOp::Trap), Ih, Own, 2, 10), // 18 58 TRAP IH
+    cell!(Control(ControlOp::Trap), Ih, Own, 2, 10), // 18 59 TRAP IH
+    cell!(Control(ControlOp::Trap), Ih, Own, 2, 10), // 18 5A TRAP IH
+    cell!(Control(ControlOp::Trap), Ih, Own, 2, 10), // 18 5B TRAP IH
+    cell!(Control(ControlOp::Trap), Ih, Own, 2, 10), // 18 5C TRAP IH
+    cell!(Control(ControlOp::Trap), Ih, Own, 2, 10), // 18 5D TRAP IH
+    cell!(Control(ControlOp::Trap), Ih, Own, 2, 10), // 18 5E TRAP IH
+    cell!(Control(ControlOp::Trap), Ih, Own, 2, 10), // 18 5F TRAP IH
+    cell!(Control(ControlOp::Trap), Ih, Own, 2, 10), // 18 60 TRAP IH
+    cell!(Control(ControlOp::Trap), Ih, Own, 2, 10), // 18 61 TRAP IH
+    cell!(Control(ControlOp::Trap), Ih, Own, 2, 10), // 18 62 TRAP IH
+    cell!(Control(ControlOp::Trap), Ih, Own, 2, 10), // 18 63 TRAP IH
+    cell!(Control(ControlOp::Trap), Ih, Own, 2, 10), // 18 64 TRAP IH
+    cell!(Control(ControlOp::Trap), Ih, Own, 2, 10), // 18 65 TRAP IH
+    cell!(Control(ControlOp::Trap), Ih, Own, 2, 10), // 18 66 TRAP IH
+    cell!(Control(ControlOp::Trap), Ih, Own, 2, 10), // 18 67 TRAP IH
+    cell!(Control(ControlOp::Trap), Ih, Own, 2, 10), // 18 68 TRAP IH
+    cell!(Control(ControlOp::Trap), Ih, Own, 2, 10), // 18 69 TRAP IH
+    cell!(Control(ControlOp::Trap), Ih, Own, 2, 10), // 18 6A TRAP IH
+    cell!(Control(ControlOp::Trap), Ih, Own, 2, 10), // 18 6B TRAP IH
+    cell!(Control(ControlOp::Trap), Ih, Own, 2, 10), // 18 6C TRAP IH
+    cell!(Control(ControlOp::Trap), Ih, Own, 2, 10), // 18 6D TRAP IH
+    cell!(Control(ControlOp::Trap), Ih, Own, 2, 10), // 18 6E TRAP IH
+    cell!(Control(ControlOp::Trap), Ih, Own, 2, 10), // 18 6F TRAP IH
+    cell!(Control(ControlOp::Trap), Ih, Own, 2, 10), // 18 70 TRAP IH
+    cell!(Control(ControlOp::Trap), Ih, Own, 2, 10), // 18 71 TRAP IH
+    cell!(Control(ControlOp::Trap), Ih, Own, 2, 10), // 18 72 TRAP IH
+    cell!(Control(ControlOp::Trap), Ih, Own, 2, 10), // 18 73 TRAP IH
+    cell!(Control(ControlOp::Trap), Ih, Own, 2, 10), // 18 74 TRAP IH
+    cell!(Control(ControlOp::Trap), Ih, Own, 2, 10), // 18 75 TRAP IH
+    cell!(Control(ControlOp::Trap), Ih, Own, 2, 10), // 18 76 TRAP IH
+    cell!(Control(ControlOp::Trap), Ih, Own, 2, 10), // 18 77 TRAP IH
+    cell!(Control(ControlOp::Trap), Ih, Own, 2, 10), // 18 78 TRAP IH
+    cell!(Control(ControlOp::Trap), Ih, Own, 2, 10), // 18 79 TRAP IH
+    cell!(Control(ControlOp::Trap), Ih, Own, 2, 10), // 18 7A TRAP IH
+    cell!(Control(ControlOp::Trap), Ih, Own, 2, 10), // 18 7B TRAP IH
+    cell!(Control(ControlOp::Trap), Ih, Own, 2, 10), // 18 7C TRAP IH
+    cell!(Control(ControlOp::Trap), Ih, Own, 2, 10), // 18 7D TRAP IH
+    cell!(Control(ControlOp::Trap), Ih, Own, 2, 10), // 18 7E TRAP IH
+    cell!(Control(ControlOp::Trap), Ih, Own, 2, 10), // 18 7F TRAP IH
+    cell!(Control(ControlOp::Trap), Ih, Own, 2, 10), // 18 80 TRAP IH
+    cell!(Control(ControlOp::Trap), Ih, Own, 2, 10), // 18 81 TRAP IH
+    cell!(Control(ControlOp::Trap), Ih, Own, 2, 10), // 18 82 TRAP IH
+    cell!(Control(ControlOp::Trap), Ih, Own, 2, 10), // 18 83 TRAP IH
+    cell!(Control(ControlOp::Trap), Ih, Own, 2, 10), // 18 84 TRAP IH
+    cell!(Control(ControlOp::Trap), Ih, Own, 2, 10), // 18 85 TRAP IH
+    cell!(Control(ControlOp::Trap), Ih, Own, 2, 10), // 18 86 TRAP IH
+    cell!(Control(ControlOp::Trap), Ih, Own, 2, 10), // 18 87 TRAP IH
+    cell!(Control(ControlOp::Trap), Ih, Own, 2, 10), // 18 88 TRAP IH
+    cell!(Control(ControlOp::Trap), Ih, Own, 2, 10), // 18 89 TRAP IH
+    cell!(Control(ControlOp::Trap), Ih, Own, 2, 10), // 18 8A TRAP IH
+    cell!(Control(ControlOp::Trap), Ih, Own, 2, 10), // 18 8B TRAP IH
+    cell!(Control(ControlOp::Trap), Ih, Own, 2, 10), // 18 8C TRAP IH
+    cell!(Control(ControlOp::Trap), Ih, Own, 2, 10), // 18 8D TRAP IH
+    cell!(Control(ControlOp::Trap), Ih, Own, 2, 10), // 18 8E TRAP IH
+    cell!(Control(ControlOp::Trap), Ih, Own, 2, 10), // 18 8F TRAP IH
+    cell!(Control(ControlOp::Trap), Ih, Own, 2, 10), // 18 90 TRAP IH
+    cell!(Control(ControlOp::Trap), Ih, Own, 2, 10), // 18 91 TRAP IH
+    cell!(Control(ControlOp::Trap), Ih, Own, 2, 10), // 18 92 TRAP IH
+    cell!(Control(ControlOp::Trap), Ih, Own, 2, 10), // 18 93 TRAP IH
+    cell!(Control(ControlOp::Trap), Ih, Own, 2, 10), // 18 94 TRAP IH
+    cell!(Control(ControlOp::Trap), Ih, Own, 2, 10), // 18 95 TRAP IH
+    cell!(Control(ControlOp::Trap), Ih, Own, 2, 10), // 18 96 TRAP IH
+    cell!(Control(ControlOp::Trap), Ih, Own, 2, 10), // 18 97 TRAP IH
+    cell!(Control(ControlOp::Trap), Ih, Own, 2, 10), // 18 98 TRAP IH
+    cell!(Control(ControlOp::Trap), Ih, Own, 2, 10), // 18 99 TRAP IH
+    cell!(Control(ControlOp::Trap), Ih, Own, 2, 10), // 18 9A TRAP IH
+    cell!(Control(ControlOp::Trap), Ih, Own, 2, 10), // 18 9B TRAP IH
+    cell!(Control(ControlOp::Trap), Ih, Own, 2, 10), // 18 9C TRAP IH
+    cell!(Control(ControlOp::Trap), Ih, Own, 2, 10), // 18 9D TRAP IH
+    cell!(Control(ControlOp::Trap), Ih, Own, 2, 10), // 18 9E TRAP IH
+    cell!(Control(ControlOp::Trap), Ih, Own, 2, 10), // 18 9F TRAP IH
+    cell!(Control(ControlOp::Trap), Ih, Own, 2, 10), // 18 A0 TRAP IH
+    cell!(Control(ControlOp::Trap), Ih, Own, 2, 10), // 18 A1 TRAP IH
+    cell!(Control(ControlOp::Trap), Ih, Own, 2, 10), // 18 A2 TRAP IH
+    cell!(Control(ControlOp::Trap), Ih, Own, 2, 10), // 18 A3 TRAP IH
+    cell!(Control(ControlOp::Trap), Ih, Own, 2, 10), // 18 A4 TRAP IH
+    cell!(Control(ControlOp::Trap), Ih, Own, 2, 10), // 18 A5 TRAP IH
+    cell!(Control(ControlOp::Trap), Ih, Own, 2, 10), // 18 A6 TRAP IH
+    cell!(Control(ControlOp::Trap), Ih, Own, 2, 10), // 18 A7 TRAP IH
+    cell!(Control(ControlOp::Trap), Ih, Own, 2, 10), // 18 A8 TRAP IH
+    cell!(Control(ControlOp::Trap), Ih, Own, 2, 10), // 18 A9 TRAP IH
+    cell!(Control(ControlOp::Trap), Ih, Own, 2, 10), // 18 AA TRAP IH
+    cell!(Control(ControlOp::Trap), Ih, Own, 2, 10), // 18 AB TRAP IH
+    cell!(Control(ControlOp::Trap), Ih, Own, 2, 10), // 18 AC TRAP IH
+    cell!(Control(ControlOp::Trap), Ih, Own, 2, 10), // 18 AD TRAP IH
+    cell!(Control(ControlOp::Trap), Ih, Own, 2, 10), // 18 AE TRAP IH
+    cell!(Control(ControlOp::Trap), Ih, Own, 2, 10), // 18 AF TRAP IH
+    cell!(Control(ControlOp::Trap), Ih, Own, 2, 10), // 18 B0 TRAP IH
+    cell!(Control(ControlOp::Trap), Ih, Own, 2, 10), // 18 B1 TRAP IH
+    cell!(Control(ControlOp::Trap), Ih, Own, 2, 10), // 18 B2 TRAP IH
+    cell!(Control(ControlOp::Trap), Ih, Own, 2, 10), // 18 B3 TRAP IH
+    cell!(Control(ControlOp::Trap), Ih, Own, 2, 10), // 18 B4 TRAP IH
+    cell!(Control(ControlOp::Trap), Ih, Own, 2, 10), // 18 B5 TRAP IH
+    cell!(Control(ControlOp::Trap), Ih, Own, 2, 10), // 18 B6 TRAP IH
+    cell!(Control(ControlOp::Trap), Ih, Own, 2, 10), // 18 B7 TRAP IH
+    cell!(Control(ControlOp::Trap), Ih, Own, 2, 10), // 18 B8 TRAP IH
+    cell!(Control(ControlOp::Trap), Ih, Own, 2, 10), // 18 B9 TRAP IH
+    cell!(Control(ControlOp::Trap), Ih, Own, 2, 10), // 18 BA TRAP IH
+    cell!(Control(ControlOp::Trap), Ih, Own, 2, 10), // 18 BB TRAP IH
+    cell!(Control(ControlOp::Trap), Ih, Own, 2, 10), // 18 BC TRAP IH
+    cell!(Control(ControlOp::Trap), Ih, Own, 2, 10), // 18 BD TRAP IH
+    cell!(Control(ControlOp::Trap), Ih, Own, 2, 10), // 18 BE TRAP IH
+    cell!(Control(ControlOp::Trap), Ih, Own, 2, 10), // 18 BF TRAP IH
+    cell!(Control(ControlOp::Trap), Ih, Own, 2, 10), // 18 C0 TRAP IH
+    cell!(Control(ControlOp::Trap), Ih, Own, 2, 10), // 18 C1 TRAP IH
+    cell!(Control(ControlOp::Trap), Ih, Own, 2, 10), // 18 C2 TRAP IH
+    cell!(Control(ControlOp::Trap), Ih, Own, 2, 10), // 18 C3 TRAP IH
+    cell!(Control(ControlOp::Trap), Ih, Own, 2, 10), // 18 C4 TRAP IH
+    cell!(Control(ControlOp::Trap), Ih, Own, 2, 10), // 18 C5 TRAP IH
+    cell!(Control(ControlOp::Trap), Ih, Own, 2, 10), // 18 C6 TRAP IH
+    cell!(Control(ControlOp::Trap), Ih, Own, 2, 10), // 18 C7 TRAP IH
+    cell!(Control(ControlOp::Trap), Ih, Own, 2, 10), // 18 C8 TRAP IH
+    cell!(Control(ControlOp::Trap), Ih, Own, 2, 10), // 18 C9 TRAP IH
+    cell!(Control(ControlOp::Trap), Ih, Own, 2, 10), // 18 CA TRAP IH
+    cell!(Control(ControlOp::Trap), Ih, Own, 2, 10), // 18 CB TRAP IH
+    cell!(Control(ControlOp::Trap), Ih, Own, 2, 10), // 18 CC TRAP IH
+    cell!(Control(ControlOp::Trap), Ih, Own, 2, 10), // 18 CD TRAP IH
+    cell!(Control(ControlOp::Trap), Ih, Own, 2, 10), // 18 CE TRAP IH
+    cell!(Control(ControlOp::Trap), Ih, Own, 2, 10), // 18 CF TRAP IH
+    cell!(Control(ControlOp::Trap), Ih, Own, 2, 10), // 18 D0 TRAP IH
+    cell!(Control(ControlOp::Trap), Ih, Own, 2, 10), // 18 D1 TRAP IH
+    cell!(Control(ControlOp::Trap), Ih, Own, 2, 10), // 18 D2 TRAP IH
+    cell!(Control(ControlOp::Trap), Ih, Own, 2, 10), // 18 D3 TRAP IH
+    cell!(Control(ControlOp::Trap), Ih, Own, 2, 10), // 18 D4 TRAP IH
+    cell!(Control(ControlOp::Trap), Ih, Own, 2, 10), // 18 D5 TRAP IH
+    cell!(Control(ControlOp::Trap), Ih, Own, 2, 10), // 18 D6 TRAP IH
+    cell!(Control(ControlOp::Trap), Ih, Own, 2, 10), // 18 D7 TRAP IH
+    cell!(Control(ControlOp::Trap), Ih, Own, 2, 10), // 18 D8 TRAP IH
+    cell!(Control(ControlOp::Trap), Ih, Own, 2, 10), // 18 D9 TRAP IH
+    cell!(Control(ControlOp::Trap), Ih, Own, 2, 10), // 18 DA TRAP IH
+    cell!(Control(ControlOp::Trap), Ih, Own, 2, 10), // 18 DB TRAP IH
+    cell!(Control(ControlOp::Trap), Ih, Own, 2, 10), // 18 DC TRAP IH
+    cell!(Control(ControlOp::Trap), Ih, Own, 2, 10), // 18 DD TRAP IH
+    cell!(Control(ControlOp::Trap), Ih, Own, 2, 10), // 18 DE TRAP IH
+    cell!(Control(ControlOp::Trap), Ih, Own, 2, 10), // 18 DF TRAP IH
+    cell!(Control(ControlOp::Trap), Ih, Own, 2, 10), // 18 E0 TRAP IH
+    cell!(Control(ControlOp::Trap), Ih, Own, 2, 10), // 18 E1 TRAP IH
+    cell!(Control(ControlOp::Trap), Ih, Own, 2, 10), // 18 E2 TRAP IH
+    cell!(Control(ControlOp::Trap), Ih, Own, 2, 10), // 18 E3 TRAP IH
+    cell!(Control(ControlOp::Trap), Ih, Own, 2, 10), // 18 E4 TRAP IH
+    cell!(Control(ControlOp::Trap), Ih, Own, 2, 10), // 18 E5 TRAP IH
+    cell!(Control(ControlOp::Trap), Ih, Own, 2, 10), // 18 E6 TRAP IH
+    cell!(Control(ControlOp::Trap), Ih, Own, 2, 10), // 18 E7 TRAP IH
+    cell!(Control(ControlOp::Trap), Ih, Own, 2, 10), // 18 E8 TRAP IH
+    cell!(Control(ControlOp::Trap), Ih, Own, 2, 10), // 18 E9 TRAP IH
+    cell!(Control(ControlOp::Trap), Ih, Own, 2, 10), // 18 EA TRAP IH
+    cell!(Control(ControlOp::Trap), Ih, Own, 2, 10), // 18 EB TRAP IH
+    cell!(Control(ControlOp::Trap), Ih, Own, 2, 10), // 18 EC TRAP IH
+    cell!(Control(ControlOp::Trap), Ih, Own, 2, 10), // 18 ED TRAP IH
+    cell!(Control(ControlOp::Trap), Ih, Own, 2, 10), // 18 EE TRAP IH
+    cell!(Control(ControlOp::Trap), Ih, Own, 2, 10), // 18 EF TRAP IH
+    cell!(Control(ControlOp::Trap), Ih, Own, 2, 10), // 18 F0 TRAP IH
+    cell!(Control(ControlOp::Trap), Ih, Own, 2, 10), // 18 F1 TRAP IH
+    cell!(Control(ControlOp::Trap), Ih, Own, 2, 10), // 18 F2 TRAP IH
+    cell!(Control(ControlOp::Trap), Ih, Own, 2, 10), // 18 F3 TRAP IH
+    cell!(Control(ControlOp::Trap), Ih, Own, 2, 10), // 18 F4 TRAP IH
+    cell!(Control(ControlOp::Trap), Ih, Own, 2, 10), // 18 F5 TRAP IH
+    cell!(Control(ControlOp::Trap), Ih, Own, 2, 10), // 18 F6 TRAP IH
+    cell!(Control(ControlOp::Trap), Ih, Own, 2, 10), // 18 F7 TRAP IH
+    cell!(Control(ControlOp::Trap), Ih, Own, 2, 10), // 18 F8 TRAP IH
+    cell!(Control(ControlOp::Trap), Ih, Own, 2, 10), // 18 F9 TRAP IH
+    cell!(Control(ControlOp::Trap), Ih, Own, 2, 10), // 18 FA TRAP IH
+    cell!(Control(ControlOp::Trap), Ih, Own, 2, 10), // 18 FB TRAP IH
+    cell!(Control(ControlOp::Trap), Ih, Own, 2, 10), // 18 FC TRAP IH
+    cell!(Control(ControlOp::Trap), Ih, Own, 2, 10), // 18 FD TRAP IH
+    cell!(Control(ControlOp::Trap), Ih, Own, 2, 10), // 18 FE TRAP IH
+    cell!(Control(ControlOp::Trap), Ih, Own, 2, 10), // 18 FF TRAP IH
 ];
-
-// The map, to be kept in a local and lent to `cell_at`: a `const` array is built anew wherever it is read.
-pub fn map() -> [u32; 512]
-    ensures { result ≡ opcode_map }
-{
-    MAP
-}
 
 fn cell_number(second: bool, opcode: u8) -> u16
     ensures { result ≡ cell_number second opcode }
 {
     if second {
-        256 + opcode as u16
+        256 + u16::from(opcode)
     } else {
-        opcode as u16
+        u16::from(opcode)
     }
 }
 
 // The cell of an opcode, on page 1 or on the second page.
-pub fn cell_at(map: &[u32; 512], second: bool, opcode: u8) -> Cell
-    requires { map.now ≡ opcode_map }
+pub fn cell_at(second: bool, opcode: u8) -> Cell
     ensures { result ≡ cell_of (cell_number second opcode) }
 {
-    let number = cell_number(second, opcode);
-    let packed = map[number as usize];
-    Cell {
-        kind: (packed / 0x100000 % 4096) as u16,
-        mode: (packed / 0x10000 % 16) as u8,
-        family: (packed / 0x100 % 256) as u8,
-        length: (packed / 0x10 % 16) as u8,
-        cost: (packed % 16) as u8,
-    }
+    MAP[usize::from(cell_number(second, opcode))]
 }
 
 // Whether the machine stops at this cell, with reply 4.
 pub fn stops(c: Cell) -> bool
     ensures { result ≡ stops_of c }
 {
-    c.kind <= kind::STOP
+    matches!(c.kind, Kind::Stops(_))
 }
 
 // Columns E and F of the postbyte table: each repeats these eight rows.
-const FORMS: [u8; 8] = [
-    form::IDX1,
-    form::IDX1,
-    form::IDX2,
-    form::IDX2_INDIRECT,
-    form::IDX,
-    form::IDX,
-    form::IDX,
-    form::D_INDIRECT,
+static FORMS: [Form; 8] = [
+    Form::Idx1,
+    Form::Idx1,
+    Form::Idx2,
+    Form::Idx2Indirect,
+    Form::Idx,
+    Form::Idx,
+    Form::Idx,
+    Form::DIndirect,
 ];
 
 // The address form of an indexed postbyte: every value names one of the five.
-pub fn form_of(postbyte: u8) -> u8
-    ensures { result ≡ form_of postbyte }
+pub fn form_of(postbyte: u8) -> Form
+    ensures { form_number result ≡ form_of postbyte }
 {
     if postbyte < 0xE0 {
-        return form::IDX;
+        return Form::Idx;
     }
-    FORMS[(postbyte % 8) as usize]
+    FORMS[usize::from(postbyte % 8)]
 }
 
 // The bytes that follow an indexed postbyte of this form.
-fn extension(form: u8) -> u8
-    ensures { result ≡ extension_of form }
+#[tactic(auto, unfolding(crate::specs::Postbyte::extension_of))]
+fn extension(form: Form) -> u8
+    ensures { result ≡ extension_of (form_number form) }
 {
     match form {
-        form::IDX1 => 1,
-        form::IDX2 => 2,
-        form::IDX2_INDIRECT => 2,
-        _ => 0,
+        Form::Idx | Form::DIndirect => 0,
+        Form::Idx1 => 1,
+        Form::Idx2 | Form::Idx2Indirect => 2,
     }
 }
 
 // The grid: a row a family, a column an address form: IMM, DIR, EXT, IDX, IDX1, IDX2, [D,IDX], [IDX2]. 0 where there is none.
-const GRID: [[u8; 8]; 18] = [
+static GRID: [[u8; 8]; 18] = [
     [0, 0, 0, 0, 0, 0, 0, 0],
     [1, 3, 3, 3, 3, 4, 6, 6],
     [2, 3, 3, 3, 3, 4, 6, 6],
@@ -652,16 +654,8 @@ const GRID: [[u8; 8]; 18] = [
     [0, 0, 0, 5, 0, 0, 0, 0],
 ];
 
-// The grid, to be kept in a local and lent as the map is.
-pub fn grid() -> [[u8; 8]; 18]
-    ensures { result ≡ grid_of }
-{
-    GRID
-}
-
-// What an instruction of a family costs in an address form, or 0 where it has no such form.
-pub fn grid_entry(grid: &[[u8; 8]; 18], family: u8, column: u8) -> u8
-    requires { grid.now ≡ grid_of }
+// What an instruction of a family, by its number, costs in an address form, by its column; or 0 where it has no such form.
+pub fn grid_entry(family: u8, column: u8) -> u8
     ensures { result ≡ grid_at family column }
 {
     if family >= 18 {
@@ -670,7 +664,7 @@ pub fn grid_entry(grid: &[[u8; 8]; 18], family: u8, column: u8) -> u8
     if column >= 8 {
         return 0;
     }
-    grid[family as usize][column as usize]
+    GRID[usize::from(family)][usize::from(column)]
 }
 
 pub fn transfer_reserved(postbyte: u8) -> bool
@@ -689,59 +683,86 @@ pub fn loop_reserved(postbyte: u8) -> bool
 pub fn indexed(c: Cell) -> bool
     ensures { result ≡ indexed_of c }
 {
-    c.mode >= mode::ID
+    matches!(
+        c.mode,
+        Mode::Id | Mode::ImId | Mode::ExId | Mode::IdId | Mode::IdEx,
+    )
+}
+
+// Whether this is TFR or EXG, whose postbyte names two registers.
+pub fn is_transfer(kind: Kind) -> bool
+    ensures { result ≡ same kind TFR/EXG }
+{
+    match kind {
+        Kind::Registers(op) => matches!(op, RegisterOp::TfrExg),
+        _ => false,
+    }
+}
+
+// Whether this is a loop primitive.
+pub fn is_loop(kind: Kind) -> bool
+    ensures { result ≡ same kind LOOP }
+{
+    match kind {
+        Kind::Control(op) => matches!(op, ControlOp::Loop),
+        _ => false,
+    }
+}
+
+// Whether this is MOVB.
+pub fn is_movb(kind: Kind) -> bool
+    ensures { result ≡ same kind MOVB }
+{
+    match kind {
+        Kind::Move(op) => matches!(op, MoveOp::Movb),
+        _ => false,
+    }
 }
 
 // Whether a postbyte of this cell is reserved, which gives reply 5. `cost` is the cell's with this postbyte: a form that the cell
 // does not have costs 0. A cell with two postbytes is asked for each.
+#[tactic(auto, unfolding(crate::specs::Postbyte::reserved_of, crate::specs::Postbyte::cost_of))]
 pub fn reserved(c: Cell, postbyte: u8, cost: u8) -> bool
     requires { cost ≡ cost_of c postbyte }
     ensures { result ≡ reserved_of c postbyte }
 {
-    if c.kind == kind::TFR_EXG {
+    if is_transfer(c.kind) {
         return transfer_reserved(postbyte);
     }
-    if c.kind == kind::LOOP {
+    if is_loop(c.kind) {
         return loop_reserved(postbyte);
     }
-    if c.mode >= mode::ID {
-        return cost == 0;
-    }
-    false
+    indexed(c) & (cost == 0)
 }
 
 // The length of the whole instruction. A cell without an indexed postbyte does not look at `form`.
-pub fn full_length(c: Cell, form: u8) -> u16
-    ensures { result ≡ length_in c form }
+pub fn full_length(c: Cell, form: Form) -> u16
+    ensures { result ≡ length_in c (form_number form) }
 {
-    if c.mode >= mode::ID {
-        return c.length as u16 + extension(form) as u16;
+    if indexed(c) {
+        return u16::from(c.length) + u16::from(extension(form));
     }
-    c.length as u16
+    u16::from(c.length)
 }
 
 // The cost of the whole instruction; of a branch, when it is taken. 0 where the cell has no such form.
-pub fn full_cost(grid: &[[u8; 8]; 18], c: Cell, form: u8) -> u8
-    requires grid_value { grid.now ≡ grid_of }
-    requires form_bound { form < 5 }
-    ensures { result ≡ cost_in c form }
+pub fn full_cost(c: Cell, form: Form) -> u8
+    ensures { result ≡ cost_in c (form_number form) }
 {
-    if c.mode >= mode::ID {
-        return grid_entry(grid, c.family, 3 + form);
+    if indexed(c) {
+        return grid_entry(c.family as u8, 3 + form as u8);
     }
     c.cost
 }
 
 // The cost of a branch that is not taken: P for a short one, OPO for a long one.
+#[tactic(auto, unfolding(crate::specs::Postbyte::untaken_of))]
 pub fn untaken_cost(c: Cell) -> u8
     ensures { result ≡ untaken_of c }
 {
-    let group = group_of(c.kind);
-    if group == group::SHORT_BRANCHES {
-        return 1;
+    match c.kind {
+        Kind::ShortBranch(_) => 1,
+        Kind::LongBranch(_) => 3,
+        _ => c.cost,
     }
-    if group == group::LONG_BRANCHES {
-        return 3;
-    }
-    c.cost
 }

@@ -3,9 +3,11 @@ use Prim.Native.Nat.{ℕ, zero, suc, ◌/◌, ◌%◌, ◌<◌}
 use native.Mathlib.Omega.{arith}
 use mathlib.Core.Path.{◌≡◌, refl, sym, ◌∙◌, ap}
 use mathlib.Core.Bool.{Bool, true, false, not, ◌&&◌}
+use mathlib.Core.List.{List}
 use lib.Dec.{eqb}
 use Rattle.word.specs.Word.{pick, bit_of}
 use Rattle.memory.specs.Memory.{byte_at}
+use Rattle.state.specs.declared.State.{State}
 use Rattle.opcodes.specs.Postbyte.{form_of, IDX, IDX1, IDX2, [D:IDX], [IDX2]}
 use Rattle.operand.specs.declared.Place.{Place}
 use Rattle.operand.specs.Indexed.{five_place, stepped_place, nine_bits, sixteen_bits, through_sixteen, through_d}
@@ -48,6 +50,15 @@ by_its_form s m at pc =
     ∙ ap
     (λ (place : Place). pick (bit_of 5 p) (pick (eqb (p / 64) 3) (pick (bit_of 2 p) place (constant_place s m at pc p)) (stepped_place s p)) (five_place s pc p))
     (fourth_first (p % 4) (omega arith) _ _ _ _)
+
+-- a place by the form of the postbyte that stands there is the place that it names
+pub by_form :
+    (s : State) (m : List ℕ) (at pc : ℕ) {p form : ℕ} {place : Place} →
+    p ≡ byte_at m at →
+    form ≡ form_of p →
+    place ≡ place_in form s m at pc p →
+    place ≡ indexed_place s m at pc
+by_form s m at pc is named placed = placed ∙ rw (named, is) (by_its_form s m at pc)
 
 pub plain_by_its_form : PlainByItsForm
 unfolding place_in

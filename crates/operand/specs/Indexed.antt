@@ -7,9 +7,18 @@ use Rattle.state.specs.declared.State.{State}
 use Rattle.state.specs.State.{with_x, with_y, with_sp, d_of}
 use Rattle.opcodes.specs.Postbyte.{form_of, IDX, IDX1, IDX2, [D:IDX]}
 use Rattle.operand.specs.declared.Place.{Place}
+use Rattle.operand.specs.declared.Base.{Base}
+use Rattle.operand.specs.declared.Base.TheVariants.{X, Y, Sp, Pc}
 
 abbrev pub place_is : ℕ → State → Place
 place_is address state = record { address = address; state = state }
+
+-- the bits rr of a base register that the code names
+abbrev pub base_number : Base → ℕ
+base_number X = 0
+base_number Y = 1
+base_number Sp = 2
+base_number Pc = 3
 
 -- the base register of rr: X, Y, SP, and PC as whatever address stands for it
 abbrev pub base_of : State → ℕ → ℕ → ℕ

@@ -3,12 +3,14 @@ use Rattle.std.specs.Prelude.{ℕ, ◌+◌, ◌-◌, ◌*◌, ◌%◌, ◌<◌, 
 use Rattle.word.specs.Word.{bit_of, pick, extend16}
 use Rattle.state.specs.declared.Flags.{Flags}
 use Rattle.state.specs.Ccr.{set_n, set_z, set_c}
-use Rattle.results.specs.declared.Word.{Word}
-use Rattle.results.specs.Results.{wide_of, set_nzvc, carried, sum_overflow, exclusive_or}
-use Rattle.product.specs.declared.Long.{Long}
+use Rattle.results.specs.declared.Outcome.{Outcome}
+use Rattle.results.specs.Results.{Word, wide_of, set_nzvc, carried, sum_overflow, exclusive_or}
 use Rattle.quotient.specs.Divide.{magnitude_of}
 
 -- a result of 32 bits, with the codes that it gives
+abbrev pub Long : Type 0
+Long = Outcome ℕ
+
 abbrev pub long_result : ℕ → (ℕ → Flags) → Long
 long_result r codes = record { value = r; flags = codes r }
 

@@ -2,72 +2,52 @@
 #![tactic(auto)]
 
 ghost use Rattle.std.specs.Prelude.{◌≡◌};
-ghost use Rattle.word.specs.Word.{bit_of};
 ghost use Rattle.product.specs.Product.{mul_word, product_codes, emul_long, signed_product, emuls_long, emacs_long};
 
-use results::Word;
+use results::{Outcome, Width, Word, codes, sum_overflow};
 use state::Flags;
 
 // 32 bits: Y : D, or four bytes of memory.
-#[derive(Clone, Copy)]
-pub struct Long {
-    pub value: u32,
-    pub flags: Flags,
-}
-
-fn top_32(n: u32) -> bool
-    ensures { result ≡ bit_of 31 n }
-{
-    n >= 2147483648
-}
+pub type Long = Outcome<u32>;
 
 pub fn mul(f: Flags, a: u8, b: u8) -> Word
     ensures { result ≡ mul_word f a b }
 {
-    let d = a as u16 * b as u16;
-    let flags = f.with_c(d / 128 % 2 == 1);
-    Word {
-        value: d,
-        flags: flags,
-    }
+    let value = a as u16 * b as u16;
+    let flags = f.with_c(value / 128 % 2 == 1);
+    Word { value, flags }
 }
 
 fn product_codes(f: Flags, r: u32) -> Flags
     ensures { result ≡ product_codes f r }
 {
-    f.with_n(top_32(r))
-        .with_z(r == 0)
+    f.with_n(r.top_bit())
+        .with_z(r.is_zero())
         .with_c(r / 32768 % 2 == 1)
 }
 
 pub fn emul(f: Flags, d: u16, y: u16) -> Long
     ensures { result ≡ emul_long f d y }
 {
-    let r = d as u32 * y as u32;
-    let flags = product_codes(f, r);
-    Long {
-        value: r,
-        flags: flags,
-    }
+    let value = d as u32 * y as u32;
+    let flags = product_codes(f, value);
+    Long { value, flags }
 }
 
 // Both factors with their signs spread over 32 bits: modulo 2 to the 32nd that is the product, by the law `SignedProduct`.
+#[tactic(auto, using(crate::proofs::Laws::signed_product_lem))]
 fn signed_product(x: u16, y: u16) -> u32
     ensures { result ≡ signed_product x y }
 {
-    let wide = word::extend_16(x) as u64 * word::extend_16(y) as u64;
-    (wide % 4294967296) as u32
+    word::extend::<u32>(x).wrapping_mul(word::extend::<u32>(y))
 }
 
 pub fn emuls(f: Flags, d: u16, y: u16) -> Long
     ensures { result ≡ emuls_long f d y }
 {
-    let r = signed_product(d, y);
-    let flags = product_codes(f, r);
-    Long {
-        value: r,
-        flags: flags,
-    }
+    let value = signed_product(d, y);
+    let flags = product_codes(f, value);
+    Long { value, flags }
 }
 
 // V and C of EMACS are an addition's, V at 32 bits and C from bit 15.
@@ -75,12 +55,8 @@ pub fn emacs(f: Flags, x: u16, y: u16, m: u32) -> Long
     ensures { result ≡ emacs_long f x y m }
 {
     let i = signed_product(x, y);
-    let r = ((i as u64 + m as u64) % 4294967296) as u32;
-    let n = top_32(r);
-    let v = results::sum_overflow(top_32(m), top_32(i), n);
-    let flags = results::nzvc(f, n, r == 0, v, m % 65536 + i % 65536 > 65535);
-    Long {
-        value: r,
-        flags: flags,
-    }
+    let value = i.wrapping_add(m);
+    let v = sum_overflow(m.top_bit(), i.top_bit(), value.top_bit());
+    let flags = codes(f, value, v, m % 65536 + i % 65536 > 65535);
+    Long { value, flags }
 }

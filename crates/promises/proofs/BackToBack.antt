@@ -21,14 +21,13 @@ use Rattle.frames.specs.Frames.{frame_of, frame_store, interrupt_effect, pulled_
 use Rattle.machine.specs.declared.Reply.TheVariants.{Done}
 use Rattle.machine.specs.Names.{line_vector}
 use Rattle.requests.specs.Requests.{allowed_line, line_after_pull, masked, entry_effect, vectored}
-use Rattle.turn.specs.declared.Turn.{Turn}
-use Rattle.turn.specs.Turn.{turn_is, turn_of}
+use Rattle.turn.specs.Turn.{Turn, turn_is, turn_of}
 use Rattle.refusals.specs.Given.{line_in}
 use Rattle.steps.specs.Steps.{turn_state, next_state, next_memory}
 use Rattle.walk.specs.Words.{Words}
 use Rattle.walk.proofs.Registers.{frame_bytes}
 use Rattle.promises.specs.BackToBack.{RtiTakes, between, memory_between, by_two, memory_by_two, BackToBack, TheLinesWhereRtiBegins}
-use Rattle.promises.proofs.Lines.{entry_turn, rti_plain, rti_taken, rti_alone}
+use Rattle.promises.proofs.Lines.{of_cost, of_state, entry_turn, rti_plain, rti_taken, rti_alone}
 use Rattle.promises.proofs.Words.{every_step_keeps_words}
 
 -- The frame that was pulled, pushed again.
@@ -130,7 +129,7 @@ module _ (s : State) (m : List ℕ) (line : ℕ) (takes : RtiTakes s m line) whe
   unfolding pulled_frame
   entered =
       entry_turn (between s m) (memory_between s m) line k (ap (λ (t : Turn). allowed_line t.effect.state.flags line) alone) takes.after
-      (ap (λ (t : Turn). t.effect.state.standing.waiting) alone ∙ takes.at.0)
+      (ap (λ t. (of_state t).standing.waiting) alone ∙ takes.at.0)
 
   two_stored : memory_by_two s m line ≡ committed m (frame_store (with_clock pulled (s.clock + 8)))
   unfolding entry_effect interrupt_effect
@@ -163,9 +162,9 @@ back_to_back s m line words bytes whole takes =
     let stored = two_stored s m line takes in
     let codes = ap (λ n. byte_at n s.sp) stored ∙ again_codes s m words bytes whole fits clock in
     record {
-      once = ap (λ (t : Turn). t.effect.cost) (ten s m line takes);
-      first = ap (λ (t : Turn). t.effect.cost) (alone s m line takes);
-      second = ap (λ (t : Turn). t.effect.cost) (entered s m line takes);
+      once = ap of_cost (ten s m line takes);
+      first = ap of_cost (alone s m line takes);
+      second = ap of_cost (entered s m line takes);
       entered = entered s m line takes;
       state = one_state s m line takes words;
       memory = ap (λ (t : Turn). committed m t.effect.store) (ten s m line takes) ∙ store_none m;
@@ -181,12 +180,12 @@ pub the_lines_where_rti_begins : TheLinesWhereRtiBegins
 unfolding pulled_frame
 the_lines_where_rti_begins s m given at none =
     record {
-      taken = λ up. ap (λ (t : Turn). t.effect.cost) (rti_taken s m (line_in given s.clock) at none up);
-      plain = λ shut. ap (λ (t : Turn). t.effect.cost) (rti_plain s m (line_in given s.clock) at none shut);
+      taken = λ up. ap of_cost (rti_taken s m (line_in given s.clock) at none up);
+      plain = λ shut. ap of_cost (rti_plain s m (line_in given s.clock) at none shut);
       later = λ shut up.
           let plain = rti_plain s m (line_in given s.clock) at none shut in
           let there : Turn → ℕ = λ t. allowed_line t.effect.state.flags (line_in given (s.clock + t.effect.cost)) in
           entry_turn (next_state given s m) (next_memory given s m) (line_in given (next_state given s m).clock)
           (line_after_pull s m (line_in given (s.clock + 8))) (ap there plain) up
-          (ap (λ (t : Turn). t.effect.state.standing.waiting) plain ∙ at.0);
+          (ap (λ t. (of_state t).standing.waiting) plain ∙ at.0);
     }

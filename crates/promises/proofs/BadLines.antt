@@ -1,12 +1,13 @@
 -- A line byte that is refused, and a schedule that has one: the tests, each way, and schedules that are made of another. On the definitions
 -- alone. Assumes nothing.
 use Prim.Native.Nat.{ℕ, zero, suc, ◌<◌}
-use native.Mathlib.Omega.{arith}
 use mathlib.Core.Logic.{◌↔◌}
-use mathlib.Core.Path.{◌≡◌, refl, sym}
-use mathlib.Core.Bool.{Bool, true, false, ◌||◌, true≢false}
+use mathlib.Core.Path.{◌≡◌, refl, ◌∙◌, ap}
+use mathlib.Core.Bool.{true, false}
 use mathlib.Core.List.{List, [], ◌∷◌}
 use lib.ListN.{length, get_or, take, drop}
+use Rattle.std.proofs.lemmas.List.{get_or_default}
+use Rattle.std.proofs.lemmas.List.Folds.{Any-from_list_any, list_any_at}
 use Rattle.word.specs.Word.{bit_of}
 use Rattle.schedule.specs.Schedule.{withdrawn, any_withdrawn, passed}
 use Rattle.schedule.proofs.Laws.{or_left, or_right, in_force_stays}
@@ -29,22 +30,13 @@ Has ls = (k : ℕ) × (k < length ls) × BadLine (get_or ls k 0)
 
 found : (ls : List ℕ) → any_withdrawn ls ≡ true → Has ls
 unfolding any_withdrawn
-found [] e = absurd (true≢false (sym e))
-found (l ∷ ls) e = go (withdrawn l) refl e (found ls)
-  where
-    go : (b : Bool) → withdrawn l ≡ b → b || any_withdrawn ls ≡ true → (any_withdrawn ls ≡ true → Has ls) → Has (l ∷ ls)
-    go true is f rest = (0, omega arith, (bad_line l).0 is)
-    go false is f rest = let at = rest f in (suc at.0, omega (arith, at.1), at.2)
-
-also : (b : Bool) {r : Bool} → r ≡ true → b || r ≡ true
-also true e = refl
-also false e = e
+found ls e =
+    let any = Any-from_list_any withdrawn ls e in
+    (any.0, any.2, (bad_line _).0 (ap withdrawn (get_or_default ls any.0 0 any.1 any.2 ∙ any.3) ∙ any.4))
 
 told : (ls : List ℕ) (k : ℕ) → k < length ls → BadLine (get_or ls k 0) → any_withdrawn ls ≡ true
 unfolding any_withdrawn
-told [] k inside bad = absurd (omega (arith, inside))
-told (l ∷ ls) zero inside bad = rw ((bad_line l).1 bad)
-told (l ∷ ls) (suc k) inside bad = also (withdrawn l) (told ls k (omega (arith, inside)) bad)
+told ls k inside bad = list_any_at withdrawn ls k 0 inside ((bad_line _).1 bad)
 
 pub bad_lines : (given : Given) → (any_withdrawn given.lines ≡ true) ↔ BadLineIn given
 bad_lines given = (found given.lines, λ at. told given.lines at.0 at.1 at.2)

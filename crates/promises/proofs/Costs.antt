@@ -1,33 +1,36 @@
 -- Every step costs what is tabled for it, on the definitions alone. Assumes nothing.
 use Prim.Native.Nat.{ℕ, zero, suc, ◌+◌, ◌<◌}
 use native.Mathlib.Omega.{arith}
-use mathlib.Core.Path.{◌≡◌, refl, ◌∙◌, ap}
+use Rattle.std.proofs.Common.{Ok, Err}
+use mathlib.Core.Path.{◌≡◌, refl, ◌∙◌}
 use mathlib.Core.Bool.{Bool, true, false, ◌&&◌, ◌||◌}
 use mathlib.Core.List.{List}
 use lib.Dec.{ltb, eqb}
-use borrow.Author.Tests.{eqb-true, eqb-false}
+use borrow.Author.Tests.{eqb-false}
 use Rattle.word.specs.Word.{pick}
 use Rattle.state.specs.declared.State.{State}
-use Rattle.opcodes.specs.Kind.{RTI, group_of, member_of, SHORT_BRANCHES, LONG_BRANCHES}
+use Rattle.opcodes.specs.declared.kind.ControlOp.TheVariants.{Rti}
+use Rattle.opcodes.specs.Kind.{RTI, group_of, member_of, same, SHORT_BRANCHES, LONG_BRANCHES}
 use Rattle.opcodes.specs.Rules.{stops_of}
 use Rattle.codes.specs.Conditions.{condition_of}
 use Rattle.decode.specs.declared.Decoded.{Decoded}
-use Rattle.decode.specs.declared.Fetched.TheVariants.{Stop, Reserved, Instruction}
+use Rattle.decode.specs.declared.Halt.TheVariants.{Stopped, Reserved}
 use Rattle.decode.specs.Decode.{cell_at, after_opcode, reserved_at, fetched_of}
 use Rattle.effect.specs.declared.Effect.{Effect}
 use Rattle.effect.specs.Effect.{quiet}
 use Rattle.frames.specs.Frames.{interrupt_effect, wait_effect, pulled_frame}
 use Rattle.flow.specs.Branches.{short_effect, long_effect}
-use Rattle.machine.specs.declared.Reply.{Reply}
 use Rattle.machine.specs.declared.Reply.TheVariants.{Done}
 use Rattle.machine.specs.Names.{number_of, no_line, idle_cost}
 use Rattle.machine.proofs.Laws.{number_zero}
 use Rattle.requests.specs.Requests.{allowed_line, entry_effect, wake_effect, line_after_pull, rti_effect}
-use Rattle.turn.specs.Turn.{controlled, executed, turn_is, instructed, turn_of}
+use Rattle.turn.specs.Turn.{control_by, controlled, executed, turn_is, instructed, turn_of}
 use Rattle.walk.specs.Walk.{Before, IsBranch, Gives}
 use Rattle.walk.specs.Walk.IsBranch.{short, long}
 use Rattle.walk.specs.Walk.Gives.{stores, untaken, waits, takes}
 use Rattle.walk.specs.Turns.{instruction_at}
+use Rattle.walk.proofs.Bounds.{refused}
+use Rattle.walk.proofs.Control.{same_control, not_control}
 use Rattle.walk.proofs.Walk.{every_instruction_gives}
 use Rattle.refusals.specs.Given.{Given}
 use Rattle.refusals.specs.Refusals.{refusal}
@@ -56,10 +59,10 @@ not_branch : (d : Decoded) → (group_of d.kind ≡ SHORT_BRANCHES → ⊥) → 
 not_branch d no_short no-long (short e) = no_short e
 not_branch d no_short no-long (long e) = no-long e
 
--- a branch has one figure where it is taken, and the other where it is not
-branch_cost : (taken : Bool) (e e' : Effect) → (pick taken e e').cost ≡ figure_of true taken e.cost e'.cost
-branch_cost true e e' = refl
-branch_cost false e e' = refl
+-- one of two effects has the one or the other cost
+picked_cost : (taken : Bool) (e e' : Effect) → (pick taken e e').cost ≡ pick taken e.cost e'.cost
+picked_cost true e e' = refl
+picked_cost false e e' = refl
 
 -- an instruction that is not RTI costs what was decoded, a branch by whether it is taken
 other_cost :
@@ -72,8 +75,8 @@ other_cost s m line d no-rti = go (eqb (group_of d.kind) SHORT_BRANCHES) (eqb (g
     go :
         (b c : Bool) → eqb (group_of d.kind) SHORT_BRANCHES ≡ b → eqb (group_of d.kind) LONG_BRANCHES ≡ c →
         (executed s m line d).cost ≡ figure_of (b || c) (condition_of s.flags (member_of d.kind)) d.cost d.untaken
-    go true c is other = rw is (branch_cost (condition_of s.flags (member_of d.kind)) _ _)
-    go false true other is = rw (other, is) (branch_cost (condition_of s.flags (member_of d.kind)) _ _)
+    go true c is other = rw is (picked_cost (condition_of s.flags (member_of d.kind)) _ _)
+    go false true other is = rw (other, is) (picked_cost (condition_of s.flags (member_of d.kind)) _ _)
     go false false no_short no-long =
         gives_cost (every_instruction_gives s m line d)
         (not_branch d (eqb-false (group_of d.kind) SHORT_BRANCHES no_short) (eqb-false (group_of d.kind) LONG_BRANCHES no-long))
@@ -84,33 +87,25 @@ rti_cost :
     (s : State) (m : List ℕ) (line : ℕ) (d : Decoded) →
     d.kind ≡ RTI →
     (executed s m line d).cost ≡ pick (ltb (line_after_pull s m line) no_line) 10 d.cost
-unfolding executed controlled rti_effect
-rti_cost s m line d is = rw is (either (ltb (line_after_pull s m line) no_line) _ _)
-  where
-    either : (b : Bool) (e e' : Effect) → (pick b e e').cost ≡ pick b e.cost e'.cost
-    either true e e' = refl
-    either false e e' = refl
+unfolding executed controlled control_by rti_effect
+rti_cost s m line d is = rw is (picked_cost (ltb (line_after_pull s m line) no_line) _ _)
 
 executed_cost :
     (s : State) (m : List ℕ) (line : ℕ) (d : Decoded) →
     (executed s m line d).cost
-    ≡ pick (eqb d.kind RTI && ltb (line_after_pull s m line) no_line) 10
+    ≡ pick (same d.kind RTI && ltb (line_after_pull s m line) no_line) 10
     (figure_of (branch_of d.kind) (condition_of s.flags (member_of d.kind)) d.cost d.untaken)
-executed_cost s m line d = go (eqb d.kind RTI) refl
+executed_cost s m line d = go (same d.kind RTI) refl
   where
     go :
-        (b : Bool) → eqb d.kind RTI ≡ b →
+        (b : Bool) → same d.kind RTI ≡ b →
         (executed s m line d).cost
         ≡ pick (b && ltb (line_after_pull s m line) no_line) 10
         (figure_of (branch_of d.kind) (condition_of s.flags (member_of d.kind)) d.cost d.untaken)
     go true is =
-        let rti : d.kind ≡ RTI = eqb-true d.kind RTI is in
+        let rti : d.kind ≡ RTI = same_control d.kind Rti is in
         rti_cost s m line d rti ∙ rw rti
-    go false is = other_cost s m line d (eqb-false d.kind RTI is)
-
--- a reply that is not 0 is not Done
-refused : {reply : Reply} {A : Type 0} → 0 < number_of reply → reply ≡ Done → A
-refused h e = let z = ap number_of e in absurd (omega (arith, h, z))
+    go false is = other_cost s m line d (not_control d.kind Rti is)
 
 -- what stands at PC
 instructed_cost :
@@ -122,11 +117,11 @@ instructed_cost s m line = go (stops_of (cell_at m s.pc)) (reserved_at m (cell_a
   where
     go :
         (st rs : Bool) →
-        (instructed s m line (pick st Stop (pick rs Reserved (Instruction (instruction_at m s.pc))))).reply ≡ Done →
-        (instructed s m line (pick st Stop (pick rs Reserved (Instruction (instruction_at m s.pc))))).effect.cost
+        (instructed s m line (pick st (Err Stopped) (pick rs (Err Reserved) (Ok (instruction_at m s.pc))))).reply ≡ Done →
+        (instructed s m line (pick st (Err Stopped) (pick rs (Err Reserved) (Ok (instruction_at m s.pc))))).effect.cost
         ≡ pick (takes_a_request s m line) 10 (tabled_instruction s m)
-    go true rs done = refused (omega arith) done
-    go false true done = refused (omega arith) done
+    go true rs done = absurd (refused (omega arith) done)
+    go false true done = absurd (refused (omega arith) done)
     go false false done = executed_cost _ m line (instruction_at m s.pc)
 
 pub a_step_costs_what_is_tabled : AStepCostsWhatIsTabled

@@ -1,10 +1,13 @@
 -- What is due at a boundary, 4, 5 or neither, by the number of its turn. On the definitions alone. Assumes nothing.
 use Prim.Native.Nat.{ℕ, zero, suc, ◌+◌, ◌<◌, ◌≤◌}
 use native.Mathlib.Omega.{arith}
+use Rattle.std.proofs.Common.{Ok, Err}
+use Rattle.std.proofs.Math.Bool.{or-false}
+use Rattle.std.proofs.lemmas.Bool.{false_from_ne_true}
 use native.Mathlib.Decide.{ℕ_discrete}
 use mathlib.Core.Logic.{◌↔◌}
 use mathlib.Core.Path.{◌≡◌, refl, sym, ◌∙◌, ap}
-use mathlib.Core.Bool.{Bool, true, false, ◌&&◌, ◌||◌, not, true≢false}
+use mathlib.Core.Bool.{Bool, true, false, ◌&&◌, ◌||◌, not, true≢false, false≢true}
 use mathlib.Core.List.{List, [], ◌∷◌}
 use lib.Dec.{ltb, eqb}
 use borrow.Author.Tests.{ltb-false, le-ltb, eqb-true, ne_eqb}
@@ -17,7 +20,7 @@ use Rattle.state.specs.declared.State.{State}
 use Rattle.opcodes.specs.Map.{cell_number, cell_of}
 use Rattle.opcodes.specs.Rules.{stops_of, among, stop_cell}
 use Rattle.opcodes.proofs.Cells.{cell_number_below, every_cell}
-use Rattle.decode.specs.declared.Fetched.TheVariants.{Stop, Reserved, Instruction}
+use Rattle.decode.specs.declared.Halt.TheVariants.{Stopped, Reserved}
 use Rattle.decode.specs.Decode.{cell_at, after_opcode, reserved_at, fetched_of}
 use Rattle.effect.specs.Effect.{quiet}
 use Rattle.machine.specs.declared.Reply.TheVariants.{Done}
@@ -83,11 +86,7 @@ no_line_lem f line = (λ e. (xirq e, others e), λ none. le-ltb (allowed_line f 
         (omega arith)
       where
         down : (k : ℕ) → 1 ≤ k → k ≤ 5 → bit_of k line ≡ false
-        down k low high = go (bit_of k line) (none k low high)
-          where
-            go : (b : Bool) → (b ≡ true → false ≡ true) → b ≡ false
-            go true up = absurd (true≢false (sym (up refl)))
-            go false up = refl
+        down k low high = false_from_ne_true (bit_of k line) (λ up. false≢true (none k low high up))
 
 -- the ten, on each page: a test over every opcode
 page_one_lem : (b : ℕ) → b < 256 → stop_cell b ≡ among b stops_on_page_one
@@ -114,11 +113,7 @@ ten_stop m pc bytes = go (eqb (byte_at m pc) 0x18) refl
         ∙ page_two_lem second (bytes (plus_w pc 1))
         ∙ ap (λ n. among n stops_on_page_one || among second stops_on_page_two) (sym (eqb-true first 0x18 is))
     go false is =
-        (every_cell first (cell_number_below false (bytes pc))).stops ∙ page_one_lem first (bytes pc) ∙ alone (among first stops_on_page_one)
-      where
-        alone : (a : Bool) → a ≡ a || false
-        alone true = refl
-        alone false = refl
+        (every_cell first (cell_number_below false (bytes pc))).stops ∙ page_one_lem first (bytes pc) ∙ sym (or-false (among first stops_on_page_one))
 
 -- the number of a turn, by the tests in their order
 turn_number :
@@ -138,7 +133,7 @@ turn_number s m line =
         (b w st rs : Bool) →
         number_of
         (pick b (pick w (turn_is Done (wake_effect s m k)) (turn_is Done (entry_effect s m k)))
-        (pick w (turn_is Done (quiet s idle_cost)) (instructed s m line (pick st Stop (pick rs Reserved (Instruction (instruction_at m s.pc))))))).reply
+        (pick w (turn_is Done (quiet s idle_cost)) (instructed s m line (pick st (Err Stopped) (pick rs (Err Reserved) (Ok (instruction_at m s.pc))))))).reply
         ≡ pick b 0 (pick w 0 (pick st 4 (pick rs 5 0)))
     go true true st rs = refl
     go true false st rs = refl

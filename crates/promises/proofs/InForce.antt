@@ -3,9 +3,10 @@ use Prim.Native.Nat.{ℕ, zero, suc, ◌+◌, ◌-◌, ◌<◌, ◌≤◌}
 use native.Mathlib.Omega.{arith}
 use native.Mathlib.Decide.{dec_lt}
 use mathlib.Core.Path.{◌≡◌, refl, sym, ◌∙◌, ap}
-use mathlib.Core.Bool.{Bool, true, false, true≢false}
+use mathlib.Core.Bool.{true, true≢false}
 use mathlib.Core.List.{List}
 use lib.ListN.{length, get_or}
+use Rattle.std.proofs.lemmas.Bool.{true_from_ne_false}
 use Rattle.schedule.specs.Schedule.{rising, passed, line_before}
 use Rattle.schedule.proofs.Laws.{passed_inside, passed_here, passed_on, accepted_same, accepted_rising, line_of_place}
 use Rattle.refusals.specs.Given.{Given, line_in}
@@ -25,14 +26,12 @@ rises cs up k h = go (dec_lt (get_or cs k 0) (get_or cs (suc k) 0))
     go (no l) = absurd (true≢false (sym up ∙ fallen cs k h (omega (arith, l))))
 
 pub rising_so : (cs : List ℕ) → Rises cs → rising cs ≡ true
-rising_so cs up = go (rising cs) refl
-  where
-    go : (b : Bool) → rising cs ≡ b → b ≡ true
-    go true e = refl
-    go false e =
-        let at = falling cs e in
-        let rise = up at.0 at.1 in
-        absurd (omega (arith, rise, at.2))
+rising_so cs up =
+    true_from_ne_false (rising cs)
+    (λ e.
+    let at = falling cs e in
+    let rise = up at.0 at.1 in
+    omega (arith, rise, at.2))
 
 pub earlier : (cs : List ℕ) → Rises cs → (d i k : ℕ) → i + d ≡ k → k < length cs → get_or cs i 0 ≤ get_or cs k 0
 earlier cs up zero i k e h =

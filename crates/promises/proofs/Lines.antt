@@ -1,12 +1,14 @@
 -- The requests in plain numbers, and what is done at PC where the opcode is known. On the definitions alone. Assumes nothing.
 use Prim.Native.Nat.{ℕ, ◌+◌, ◌/◌, ◌%◌, ◌^◌, ◌<◌, ◌≤◌}
 use native.Mathlib.Omega.{arith}
+use Rattle.std.proofs.Common.{Ok, Err}
+use Rattle.std.proofs.Math.Bool.{and-false}
 use mathlib.Core.Path.{◌≡◌, refl, sym, ◌∙◌, ap, subst}
 use mathlib.Core.Bool.{Bool, true, false, ◌&&◌, ◌||◌, not}
 use mathlib.Core.List.{List}
 use lib.Dec.{eqb}
 use lib.ListN.{length}
-use borrow.Author.Tests.{eqb-true, lt-ltb, le-ltb}
+use borrow.Author.Tests.{lt-ltb, le-ltb}
 use Rattle.word.specs.Word.{pick, plus_w, minus_w, bit_of}
 use Rattle.memory.specs.Memory.{byte_at, committed}
 use Rattle.memory.proofs.Laws.{store_none}
@@ -15,13 +17,14 @@ use Rattle.state.specs.declared.State.{State}
 use Rattle.state.specs.Ccr.{set_x, set_i}
 use Rattle.state.specs.State.{with_sp, with_pc}
 use Rattle.opcodes.specs.declared.Cell.{Cell}
-use Rattle.opcodes.specs.Kind.{RTI}
+use Rattle.opcodes.specs.declared.kind.ControlOp.TheVariants.{Rti}
+use Rattle.opcodes.specs.Kind.{RTI, same}
 use Rattle.opcodes.specs.Map.{cell_number, cell_of}
 use Rattle.opcodes.specs.Postbyte.{form_of, reserved_of, cost_of}
 use Rattle.opcodes.specs.Rules.{stops_of}
 use Rattle.opcodes.proofs.Cells.{one_rti}
 use Rattle.decode.specs.declared.Decoded.{Decoded}
-use Rattle.decode.specs.declared.Fetched.TheVariants.{Stop, Reserved, Instruction}
+use Rattle.decode.specs.declared.Halt.TheVariants.{Stopped, Reserved}
 use Rattle.decode.specs.Decode.{cell_at, after_opcode, second_reserved, reserved_at, decoded_is, decoded_of, fetched_of}
 use Rattle.effect.specs.Effect.{quiet}
 use Rattle.frames.specs.Frames.{frame_of, frame_store, interrupt_effect, pulled_frame}
@@ -29,16 +32,26 @@ use Rattle.machine.specs.declared.Reply.TheVariants.{Done}
 use Rattle.machine.specs.Names.{line_vector, no_line, idle_cost}
 use Rattle.requests.proofs.Laws.{lowest_first, returns_taking, returns_plainly}
 use Rattle.requests.specs.Requests.{lowest_line, allowed_line, line_after_pull, masked, entry_effect, vectored, wake_effect, rti_effect}
-use Rattle.turn.specs.declared.Turn.{Turn}
-use Rattle.turn.specs.Turn.{controlled, executed, turn_is, instructed, turn_of}
+use Rattle.turn.specs.Turn.{Turn, control_by, controlled, executed, turn_is, instructed, turn_of}
 use Rattle.walk.specs.Words.{Words}
 use Rattle.walk.specs.Turns.{instruction_at}
+use Rattle.walk.proofs.Control.{same_control}
 use Rattle.walk.proofs.Registers.{frame_bytes, set_pc}
 use Rattle.word.proofs.Laws.{both}
 use Rattle.promises.specs.Frame.{FrameAt}
 use Rattle.promises.specs.Plain.{At, AtTwo, EnteredBy, WokenBy, Vectors, LetsNone, TakenBy, EveryRequest, EveryEndOfAWait, EveryMaskedRequest, EveryIdleCycle, EveryReturnToARequest}
 use Rattle.promises.proofs.Boundaries.{nine_stored}
 use Rattle.promises.proofs.Frame.{frame_at}
+
+-- What a turn that is known leaves.
+abbrev pub of_cost : Turn → ℕ
+of_cost t = t.effect.cost
+
+abbrev pub of_state : Turn → State
+of_state t = t.effect.state
+
+abbrev pub of_flags : Turn → Flags
+of_flags t = t.effect.state.flags
 
 -- The line that is entered, by the bits that are up.
 
@@ -55,11 +68,7 @@ xirq_shut : (f : Flags) (line : ℕ) → (f.x ≡ false → line % 2 ≡ 0) → 
 xirq_shut f line shut = go f.x refl
   where
     go : (x : Bool) → f.x ≡ x → (bit_of 0 line && not x) ≡ false
-    go true is = both_false (bit_of 0 line)
-      where
-        both_false : (b : Bool) → (b && false) ≡ false
-        both_false true = refl
-        both_false false = refl
+    go true is = and-false (bit_of 0 line)
     go false is = rw (undivided line, shut is)
 
 other_allowed : (f : Flags) (line : ℕ) → (f.x ≡ false → line % 2 ≡ 0) → f.i ≡ false → allowed_line f line ≡ lowest_line line
@@ -104,12 +113,12 @@ unfolding interrupt_effect
 entered_by s m line vector cycles stacked after is i words inside whole =
     record {
       reply = ap (λ (t : Turn). t.reply) is;
-      pc = ap (λ (t : Turn). t.effect.state.pc) is;
-      sp = ap (λ (t : Turn). t.effect.state.sp) is;
+      pc = ap (λ t. (of_state t).pc) is;
+      sp = ap (λ t. (of_state t).sp) is;
       frame = rw is (framed m (with_pc s stacked) (set_pc words inside) whole);
-      i = ap (λ (t : Turn). t.effect.state.flags.i) is ∙ i;
-      x = ap (λ (t : Turn). t.effect.state.flags.x) is;
-      cost = ap (λ (t : Turn). t.effect.cost) is;
+      i = ap (λ t. (of_flags t).i) is ∙ i;
+      x = ap (λ t. (of_flags t).x) is;
+      cost = ap of_cost is;
     }
 
 masked_i : (k : ℕ) (f : Flags) → (masked k f).i ≡ true
@@ -143,13 +152,13 @@ every_end_of_a_wait s m line waits =
     let turn = wake_turn s m line k is low waits in
     record {
       reply = ap (λ (t : Turn). t.reply) turn;
-      pc = ap (λ (t : Turn). t.effect.state.pc) turn;
-      sp = ap (λ (t : Turn). t.effect.state.sp) turn;
+      pc = ap (λ t. (of_state t).pc) turn;
+      sp = ap (λ t. (of_state t).sp) turn;
       memory = ap (λ (t : Turn). committed m t.effect.store) turn ∙ store_none m;
-      awake = ap (λ (t : Turn). t.effect.state.standing.waiting) turn;
-      i = ap (λ (t : Turn). t.effect.state.flags.i) turn ∙ masked_i k s.flags;
-      x = ap (λ (t : Turn). t.effect.state.flags.x) turn;
-      cost = ap (λ (t : Turn). t.effect.cost) turn;
+      awake = ap (λ t. (of_state t).standing.waiting) turn;
+      i = ap (λ t. (of_flags t).i) turn ∙ masked_i k s.flags;
+      x = ap (λ t. (of_flags t).x) turn;
+      cost = ap of_cost turn;
     })
 
 -- none is let through
@@ -168,14 +177,14 @@ pub every_idle_cycle : EveryIdleCycle
 unfolding turn_of
 every_idle_cycle s m waits =
     let turn : turn_of s m 0 ≡ turn_is Done (quiet s 1) = rw (none_up s.flags, waits) in
-    (ap (λ (t : Turn). t.effect.cost) turn, ap (λ (t : Turn). t.effect.state) turn, ap (λ (t : Turn). committed m t.effect.store) turn ∙ store_none m)
+    (ap of_cost turn, ap of_state turn, ap (λ (t : Turn). committed m t.effect.store) turn ∙ store_none m)
 
 -- What is done at PC, where the opcode is known.
 
 -- a cell's instruction under a line byte, with the first byte after its opcode; and with no line up
 abbrev cell_under : State → List ℕ → ℕ → Cell → ℕ → Turn
 cell_under s m line c at =
-    instructed s m line (pick (stops_of c) Stop (pick (reserved_at m c at) Reserved (Instruction (decoded_of m s.pc c at))))
+    instructed s m line (pick (stops_of c) (Err Stopped) (pick (reserved_at m c at) (Err Reserved) (Ok (decoded_of m s.pc c at))))
 
 abbrev pub cell_turn : State → List ℕ → Cell → ℕ → Turn
 cell_turn s m c at =
@@ -191,11 +200,11 @@ at_pc_lem :
 unfolding turn_of
 at_pc_lem s m line none awake = rw (le-ltb _ _ none, awake)
 
-fetched_one : (m : List ℕ) (pc opcode : ℕ) → byte_at m pc ≡ opcode → eqb opcode 0x18 ≡ false → fetched_of m pc ≡ pick (stops_of (cell_of opcode)) Stop (pick (reserved_at m (cell_of opcode) (plus_w pc 1)) Reserved (Instruction (decoded_of m pc (cell_of opcode) (plus_w pc 1))))
+fetched_one : (m : List ℕ) (pc opcode : ℕ) → byte_at m pc ≡ opcode → eqb opcode 0x18 ≡ false → fetched_of m pc ≡ pick (stops_of (cell_of opcode)) (Err Stopped) (pick (reserved_at m (cell_of opcode) (plus_w pc 1)) (Err Reserved) (Ok (decoded_of m pc (cell_of opcode) (plus_w pc 1))))
 unfolding fetched_of
 fetched_one m pc opcode is one = rw (is, one)
 
-fetched_two : (m : List ℕ) (pc opcode : ℕ) → byte_at m pc ≡ 0x18 → byte_at m (plus_w pc 1) ≡ opcode → fetched_of m pc ≡ pick (stops_of (cell_of (256 + opcode))) Stop (pick (reserved_at m (cell_of (256 + opcode)) (plus_w pc 2)) Reserved (Instruction (decoded_of m pc (cell_of (256 + opcode)) (plus_w pc 2))))
+fetched_two : (m : List ℕ) (pc opcode : ℕ) → byte_at m pc ≡ 0x18 → byte_at m (plus_w pc 1) ≡ opcode → fetched_of m pc ≡ pick (stops_of (cell_of (256 + opcode))) (Err Stopped) (pick (reserved_at m (cell_of (256 + opcode)) (plus_w pc 2)) (Err Reserved) (Ok (decoded_of m pc (cell_of (256 + opcode)) (plus_w pc 2))))
 unfolding fetched_of
 fetched_two m pc opcode is second = rw (is, second)
 
@@ -215,9 +224,9 @@ turn_two s m opcode at = at_pc_lem s m 0 (quiet_line s.flags) at.0.0 ∙ ap (ins
 abbrev pub postbyte_turn : State → List ℕ → Cell → ℕ → Turn
 postbyte_turn s m c p =
     instructed s m 0
-    (pick (stops_of c) Stop
-    (pick (reserved_of c p || second_reserved m c (plus_w s.pc 1)) Reserved
-    (Instruction (decoded_is s.pc c (plus_w s.pc 1) p (form_of p) (cost_of c p)))))
+    (pick (stops_of c) (Err Stopped)
+    (pick (reserved_of c p || second_reserved m c (plus_w s.pc 1)) (Err Reserved)
+    (Ok (decoded_is s.pc c (plus_w s.pc 1) p (form_of p) (cost_of c p)))))
 
 pub turn_postbyte : (s : State) (m : List ℕ) (opcode p : ℕ) → AtTwo s m opcode p → eqb opcode 0x18 ≡ false → turn_of s m 0 ≡ postbyte_turn s m (cell_of opcode) p
 turn_postbyte s m opcode p at one = turn_one s m opcode at.0 one ∙ ap of at.1
@@ -231,7 +240,7 @@ turn_postbyte s m opcode p at one = turn_one s m opcode at.0 one ∙ ap of at.1
 pub rti_turn :
     (s : State) (m : List ℕ) (line : ℕ) → At s m 0x0B → no_line ≤ allowed_line s.flags line →
     turn_of s m line ≡ turn_is Done (rti_effect (with_pc s (plus_w s.pc 1)) m line 8)
-unfolding cell_of reserved_of cost_of instructed executed controlled
+unfolding cell_of reserved_of cost_of instructed executed controlled control_by
 rti_turn s m line at none = turn_under s m line 0x0B at refl none
 
 -- by whether the masks that it pulls allow one
@@ -272,18 +281,18 @@ taken_by s m line k at none low is =
     rti_taken s m line at none (rw is low) ∙ ap (λ j. turn_is Done (quiet (vectored (with_sp pulled s.sp) m j) 10)) is in
     record {
       reply = ap (λ (t : Turn). t.reply) turn;
-      b = ap (λ (t : Turn). t.effect.state.b) turn ∙ sym (ap (λ (t : Turn). t.effect.state.b) alone);
-      a = ap (λ (t : Turn). t.effect.state.a) turn ∙ sym (ap (λ (t : Turn). t.effect.state.a) alone);
-      x = ap (λ (t : Turn). t.effect.state.x) turn ∙ sym (ap (λ (t : Turn). t.effect.state.x) alone);
-      y = ap (λ (t : Turn). t.effect.state.y) turn ∙ sym (ap (λ (t : Turn). t.effect.state.y) alone);
-      pc = ap (λ (t : Turn). t.effect.state.pc) turn;
-      sp = ap (λ (t : Turn). t.effect.state.sp) turn;
+      b = ap (λ t. (of_state t).b) turn ∙ sym (ap (λ t. (of_state t).b) alone);
+      a = ap (λ t. (of_state t).a) turn ∙ sym (ap (λ t. (of_state t).a) alone);
+      x = ap (λ t. (of_state t).x) turn ∙ sym (ap (λ t. (of_state t).x) alone);
+      y = ap (λ t. (of_state t).y) turn ∙ sym (ap (λ t. (of_state t).y) alone);
+      pc = ap (λ t. (of_state t).pc) turn;
+      sp = ap (λ t. (of_state t).sp) turn;
       codes =
-          ap (λ (t : Turn). t.effect.state.flags) turn
+          ap of_flags turn
           ∙ masks_over k pulled.flags
           ∙ sym (ap (λ (t : Turn). set_x (set_i t.effect.state.flags true) (masked k pulled.flags).x) alone);
       memory = ap (λ (t : Turn). committed m t.effect.store) turn ∙ store_none m;
-      cost = ap (λ (t : Turn). t.effect.cost) turn;
+      cost = ap of_cost turn;
     }
 
 pub every_return_to_a_request : EveryReturnToARequest
@@ -306,11 +315,11 @@ unheard :
     (s : State) (m : List ℕ) (line : ℕ) (d : Decoded) →
     (d.kind ≡ RTI → no_line ≤ line_after_pull s m line) →
     executed s m line d ≡ executed s m 0 d
-unfolding executed controlled rti_effect
-unheard s m line d shut = go (eqb d.kind RTI) refl
+unfolding executed controlled control_by rti_effect
+unheard s m line d shut = go (same d.kind RTI) refl
   where
-    go : (b : Bool) → eqb d.kind RTI ≡ b → executed s m line d ≡ executed s m 0 d
-    go true is = rw (le-ltb _ _ (shut (eqb-true d.kind RTI is)), le-ltb _ _ (quiet_line (pulled_frame s m).flags))
+    go : (b : Bool) → same d.kind RTI ≡ b → executed s m line d ≡ executed s m 0 d
+    go true is = rw (le-ltb _ _ (shut (same_control d.kind Rti is)), le-ltb _ _ (quiet_line (pulled_frame s m).flags))
     go false is = rw is
 
 nothing_heard :
@@ -322,8 +331,8 @@ nothing_heard s m line shut = go (stops_of (cell_at m s.pc)) (reserved_at m (cel
   where
     go :
         (st rs : Bool) →
-        instructed s m line (pick st Stop (pick rs Reserved (Instruction (instruction_at m s.pc))))
-        ≡ instructed s m 0 (pick st Stop (pick rs Reserved (Instruction (instruction_at m s.pc))))
+        instructed s m line (pick st (Err Stopped) (pick rs (Err Reserved) (Ok (instruction_at m s.pc))))
+        ≡ instructed s m 0 (pick st (Err Stopped) (pick rs (Err Reserved) (Ok (instruction_at m s.pc))))
     go true rs = refl
     go false true = refl
     go false false = ap (turn_is Done) (unheard _ m line (instruction_at m s.pc) shut)

@@ -12,10 +12,9 @@ use Rattle.state.specs.declared.Standing.{Standing}
 use Rattle.state.specs.declared.State.{State}
 use Rattle.effect.specs.declared.Effect.{Effect}
 use Rattle.frames.specs.Frames.{frame_of, interrupt_effect, wait_effect, pulled_frame}
-use Rattle.turn.specs.declared.Turn.{Turn}
 use Rattle.requests.specs.Requests.{allowed_line, masked, entry_effect, wake_effect}
 use Rattle.requests.proofs.Laws.{xirq_by_x}
-use Rattle.turn.specs.Turn.{turn_of}
+use Rattle.turn.specs.Turn.{Turn, turn_of}
 use Rattle.walk.specs.Walk.{Before, Gives}
 use Rattle.walk.specs.Walk.Gives.{stores, untaken, waits, takes}
 use Rattle.walk.specs.Turns.{Ways}

@@ -2,6 +2,8 @@
 use Prim.Native.Nat.{ℕ, ◌+◌, ◌*◌, ◌/◌, ◌%◌, ◌<◌, ◌≤◌}
 use native.Mathlib.Nat.{le-div_iff_mul-le}
 use native.Mathlib.Omega.{arith}
+use Rattle.std.proofs.Common.{Result, Ok, Err}
+use Rattle.std.proofs.Math.Bool.{or-true, or-false}
 use mathlib.Core.Path.{◌≡◌, refl, sym, ◌∙◌, ap}
 use mathlib.Core.Bool.{Bool, true, false, ◌&&◌, ◌||◌}
 use mathlib.Core.List.{List}
@@ -9,19 +11,23 @@ use lib.Dec.{T, eqb, leb, eqb→eq}
 use borrow.Author.Tests.{eq-eqb, ne_eqb, le-leb}
 use Rattle.word.specs.Word.{pick, plus_w, bit_of}
 use Rattle.word.proofs.Laws.{both, high_word_lem, low_word_lem}
-use Rattle.word.proofs.Table.{and_left, and_right, every_below, at_number}
+use Rattle.word.proofs.Table.{same_is, and_left, and_right, every_below, at_number}
 use Rattle.memory.specs.Memory.{byte_at}
 use Rattle.state.specs.declared.Flags.{Flags}
 use Rattle.state.specs.declared.State.{State}
 use Rattle.state.specs.Ccr.{set_i}
 use Rattle.state.specs.State.{with_pc, d_of}
 use Rattle.opcodes.specs.declared.Cell.{Cell}
+use Rattle.opcodes.specs.declared.kind.ControlOp.TheVariants.{Trap}
+use Rattle.opcodes.specs.Kind.{TRAP, same}
+use Rattle.opcodes.specs.Mode.{mode_number}
 use Rattle.opcodes.specs.Grid.{grid, grid_at, families, family_of}
 use Rattle.opcodes.specs.Map.{cell_of}
 use Rattle.opcodes.specs.Postbyte.{form_of, extension_of, reserved_of, cost_of, untaken_of}
 use Rattle.opcodes.specs.Rules.{stops_of}
-use Rattle.decode.specs.declared.Fetched.{Fetched}
-use Rattle.decode.specs.declared.Fetched.TheVariants.{Reserved, Instruction}
+use Rattle.decode.specs.declared.Decoded.{Decoded}
+use Rattle.decode.specs.declared.Halt.{Halt}
+use Rattle.decode.specs.declared.Halt.TheVariants.{Reserved}
 use Rattle.decode.specs.Decode.{reserved_at, decoded_of}
 use Rattle.decimal.proofs.Laws.{factor_is, corrected_is}
 use Rattle.decimal.specs.Decimal.{table, factor_of, corrected_of}
@@ -36,36 +42,26 @@ use Rattle.operand.specs.Indexed.{with_base, stepped_place, constant_place, accu
 use Rattle.moves.specs.Addresses.{addressed, address_effect}
 use Rattle.frames.specs.Frames.{wait_effect, pulled_frame, interrupt_effect}
 use Rattle.flow.specs.Branches.{short_effect}
-use Rattle.flow.specs.Control.{control_effect}
+use Rattle.flow.specs.Control.{control_done}
 use Rattle.machine.specs.declared.Reply.TheVariants.{Done}
-use Rattle.turn.specs.declared.Turn.{Turn}
-use Rattle.turn.specs.Turn.{turn_is, controlled, with_operand, executed, instructed, turn_of}
+use Rattle.turn.specs.Turn.{Turn, turn_is, control_by, controlled, with_operand, executed, instructed, turn_of}
+use Rattle.walk.proofs.Control.{same_control}
 use Rattle.walk.proofs.Registers.{set_pc}
 use Rattle.promises.specs.Plain.{At, AtTwo, done, EnteredBy, EveryInterrupt, EveryReturn, EveryCost, EveryReset, EveryAddress, KeptButNZV, KeptButZ, EveryCode, EveryInstructionKeepsX, EveryUndefined}
-use Rattle.promises.proofs.Lines.{framed, entered_by, cell_turn, turn_one, turn_two, postbyte_turn, turn_postbyte, none_up, rti_alone}
+use Rattle.promises.proofs.Lines.{of_cost, of_state, of_flags, framed, entered_by, cell_turn, turn_one, turn_two, postbyte_turn, turn_postbyte, none_up, rti_alone}
 use Rattle.promises.proofs.Masks.{x_stays_clear}
-
--- What a turn that is known leaves.
-abbrev of_cost : Turn → ℕ
-of_cost t = t.effect.cost
-
-abbrev of_state : Turn → State
-of_state t = t.effect.state
-
-abbrev of_flags : Turn → Flags
-of_flags t = t.effect.state.flags
 
 -- SWI, the traps, WAI.
 
 swi_turn : (s : State) (m : List ℕ) → At s m 0x3F → turn_of s m 0 ≡ turn_is Done (interrupt_effect (with_pc s (plus_w s.pc 1)) m 0xFFF6 (set_i s.flags true) 9)
-unfolding cell_of reserved_of cost_of instructed executed controlled
+unfolding cell_of reserved_of cost_of instructed executed controlled control_by
 swi_turn s m at = turn_one s m 0x3F at refl
 
 -- every trap code has the same cell
 is_trap : ℕ → Bool
 is_trap code =
     let c = cell_of (256 + code) in
-    eqb c.kind 0xD4 && (eqb c.mode 3 && (eqb c.length 2 && eqb c.cost 10))
+    same c.kind TRAP && (eqb (mode_number c.mode) 3 && (eqb c.length 2 && eqb c.cost 10))
 
 abbrev trap_code : ℕ → Bool
 trap_code code = pick (leb 0x30 code && (leb code 0x39 || leb 0x40 code)) (is_trap code) true
@@ -76,9 +72,9 @@ every_trap_code = tt
 
 -- what such a cell does
 trap_cell_lem :
-    (s : State) (m : List ℕ) (c : Cell) (at : ℕ) → c.kind ≡ 0xD4 → c.mode ≡ 3 → c.length ≡ 2 → c.cost ≡ 10 →
+    (s : State) (m : List ℕ) (c : Cell) (at : ℕ) → c.kind ≡ TRAP → mode_number c.mode ≡ 3 → c.length ≡ 2 → c.cost ≡ 10 →
     cell_turn s m c at ≡ turn_is Done (interrupt_effect (with_pc s (plus_w s.pc 2)) m 0xFFF8 (set_i s.flags true) 10)
-unfolding reserved_of cost_of instructed executed controlled
+unfolding reserved_of cost_of instructed executed controlled control_by
 trap_cell_lem s m c at kind mode long cost = rw (kind, mode, long, cost)
 
 trap_turn :
@@ -87,19 +83,19 @@ trap_turn :
 unfolding is_trap
 trap_turn s m code low among at =
     let c = cell_of (256 + code) in
-    let kind = eqb c.kind 0xD4 in
-    let mode = eqb c.mode 3 in
+    let kind = same c.kind TRAP in
+    let mode = eqb (mode_number c.mode) 3 in
     let long = eqb c.length 2 in
     let cost = eqb c.cost 10 in
     let all = rw among at (at_number trap_code 256 every_trap_code code low) in
     let rest = and_right kind (mode && (long && cost)) all in
     let last = and_right mode (long && cost) rest in
     turn_two s m code at
-    ∙ trap_cell_lem s m c (plus_w s.pc 2) (eqb→eq _ _ (and_left kind (mode && (long && cost)) all))
+    ∙ trap_cell_lem s m c (plus_w s.pc 2) (same_control c.kind Trap (sym (same_is true kind (and_left kind (mode && (long && cost)) all))))
     (eqb→eq _ _ (and_left mode (long && cost) rest)) (eqb→eq _ _ (and_left long cost last)) (eqb→eq _ _ (and_right long cost last))
 
 wai_turn : (s : State) (m : List ℕ) → At s m 0x3E → turn_of s m 0 ≡ turn_is Done (wait_effect (with_pc s (plus_w s.pc 1)) 7)
-unfolding cell_of reserved_of cost_of instructed executed controlled control_effect
+unfolding cell_of reserved_of cost_of instructed executed controlled control_by control_done
 wai_turn s m at = turn_one s m 0x3E at refl
 
 pub every_interrupt : EveryInterrupt
@@ -109,7 +105,7 @@ every_interrupt s m words whole =
       swi = λ at. entered_by s m 0 0xFFF6 9 (plus_w s.pc 1) (set_i s.flags true) (swi_turn s m at) refl words (omega arith) whole;
       trap_low = λ code from to at. trap code (omega (arith, to)) (rw (le-leb 0x30 code from, le-leb code 0x39 to)) at;
       trap_high = λ code from to at.
-          trap code (omega (arith, to)) (rw (le-leb 0x30 code (omega (arith, from)), le-leb 0x40 code from) (or_true (leb code 0x39))) at;
+          trap code (omega (arith, to)) (rw (le-leb 0x30 code (omega (arith, from)), le-leb 0x40 code from) (or-true (leb code 0x39))) at;
       wai = λ at.
           rw (wai_turn s m at)
           (framed m (with_pc s (plus_w s.pc 1)) (set_pc words (omega arith)) whole);
@@ -120,10 +116,6 @@ every_interrupt s m words whole =
     trap : (code : ℕ) → code < 256 → (leb 0x30 code && (leb code 0x39 || leb 0x40 code)) ≡ true → AtTwo s m 0x18 code → EnteredBy 0xFFF8 10 (plus_w s.pc 2) s.flags.x s m 0
     trap code low among at =
         entered_by s m 0 0xFFF8 10 (plus_w s.pc 2) (set_i s.flags true) (trap_turn s m code low among at) refl words (omega arith) whole
-
-    or_true : (b : Bool) → (b || true) ≡ true
-    or_true true = refl
-    or_true false = refl
 
 -- RTI.
 pub every_return : EveryReturn
@@ -149,7 +141,7 @@ every_return s m at =
     }
 
 pub every_cost : EveryCost
-unfolding cell_of reserved_of cost_of instructed executed controlled control_effect wait_effect product_effect accumulate_effect
+unfolding cell_of reserved_of cost_of instructed executed controlled control_by control_done wait_effect product_effect accumulate_effect
 every_cost s m =
     record {
       wai = λ at. ap of_cost (turn_one s m 0x3E at refl);
@@ -255,8 +247,8 @@ lea_kept :
     of_flags (cell_turn s m c at) ≡ s.flags
 unfolding instructed
 lea_kept s m c at on kept =
-    let Kept : Fetched → Type 0 = λ f. (instructed s m 0 f).effect.state.flags ≡ s.flags in
-    rw on (both Kept (reserved_at m c at) Reserved (Instruction (decoded_of m s.pc c at)) refl kept)
+    let Kept : Result Decoded Halt → Type 0 = λ f. (instructed s m 0 f).effect.state.flags ≡ s.flags in
+    rw on (both Kept (reserved_at m c at) (Err Reserved) (Ok (decoded_of m s.pc c at)) refl kept)
 
 pub every_code : EveryCode
 unfolding cell_of reserved_of form_of cost_of untaken_of grid grid_at families family_of extension_of instructed executed in_a_effect in_b_effect
@@ -300,11 +292,7 @@ too_large_lem y d x some least =
 no_row : (c : Bool) (a : ℕ) → a < 256 → 4 ≤ a % 16 → (factor_of table c true a ≡ 0) × (corrected_of table c true a ≡ c)
 no_row c a low past =
     let is = le-leb 4 (a % 16) past in
-    (sym (factor_is c true a low) ∙ rw is, sym (corrected_is c true a low) ∙ rw is (or_false c))
-  where
-    or_false : (b : Bool) → (b || false) ≡ b
-    or_false true = refl
-    or_false false = refl
+    (sym (factor_is c true a low) ∙ rw is, sym (corrected_is c true a low) ∙ rw is (or-false c))
 
 pub every_undefined : EveryUndefined
 unfolding cell_of reserved_of cost_of instructed executed product_effect multiplied registers_effect registered second_registers

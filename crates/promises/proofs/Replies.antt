@@ -9,6 +9,7 @@ use mathlib.Core.List.{List, [], ◌∷◌}
 use lib.Dec.{leb, ltb, eqb}
 use lib.ListN.{length, get_or}
 use borrow.Author.Tests.{eqb-true, eqb-false, eq-eqb, ne_eqb, ltb-false, le-ltb, leb-false, lt-leb}
+use Rattle.std.proofs.lemmas.Bool.{and_right}
 use Rattle.word.proofs.Laws.{both}
 use Rattle.memory.specs.Memory.{AreBytes}
 use Rattle.state.specs.declared.State.{State}
@@ -133,11 +134,6 @@ step_gives_zero s m line bytes =
 abbrev pub Falls : List ℕ → Type 0
 Falls cs = (k : ℕ) × (suc k < length cs) × (get_or cs (suc k) 0 ≤ get_or cs k 0)
 
--- one of two is false
-also : (b : Bool) {r : Bool} → r ≡ false → b && r ≡ false
-also true e = e
-also false e = refl
-
 -- where the cycle numbers do not rise, there are such neighbours, and where there are, they do not
 falling_after : (c : ℕ) (cs : List ℕ) → rising_after c cs ≡ false → Falls (c ∷ cs)
 unfolding rising_after
@@ -157,7 +153,7 @@ fallen_after : (c : ℕ) (cs : List ℕ) (k : ℕ) → suc k < length (c ∷ cs)
 unfolding rising_after
 fallen_after c [] k inside down = absurd (omega (arith, inside))
 fallen_after c (d ∷ ds) zero inside down = rw (le-ltb c d down)
-fallen_after c (d ∷ ds) (suc k) inside down = also (ltb c d) (fallen_after d ds k (omega (arith, inside)) down)
+fallen_after c (d ∷ ds) (suc k) inside down = and_right (ltb c d) _ (fallen_after d ds k (omega (arith, inside)) down)
 
 pub fallen : (cs : List ℕ) (k : ℕ) → suc k < length cs → get_or cs (suc k) 0 ≤ get_or cs k 0 → rising cs ≡ false
 unfolding rising
@@ -183,8 +179,8 @@ bad_schedule given = (go (eqb lc ll) (leb lc 64) (rising given.cycles) refl refl
     go true true true e₁ e₂ e₃ e = absurd (true≢false e)
 
     refuses : BadSchedule given → (eqb lc ll && leb lc 64) && rising given.cycles ≡ false
-    refuses (long h) = ap (λ b. b && rising given.cycles) (also (eqb lc ll) (lt-leb lc 64 h))
-    refuses (falls k inside down) = also (eqb lc ll && leb lc 64) (fallen given.cycles k inside down)
+    refuses (long h) = ap (λ b. b && rising given.cycles) (and_right (eqb lc ll) _ (lt-leb lc 64 h))
+    refuses (falls k inside down) = and_right (eqb lc ll && leb lc 64) _ (fallen given.cycles k inside down)
     refuses (uneven other) = ap (λ b. (b && leb lc 64) && rising given.cycles) (ne_eqb lc ll other)
 
 pub good_schedule : (given : Given) → (accepted 64 given.cycles given.lines ≡ true) ↔ (BadSchedule given → ⊥)

@@ -9,8 +9,7 @@ use Rattle.state.specs.State.{with_clock}
 use Rattle.memory.specs.Memory.{committed, AreBytes}
 use Rattle.machine.specs.Names.{number_of}
 use Rattle.machine.proofs.Laws.{number_zero}
-use Rattle.turn.specs.declared.Turn.{Turn}
-use Rattle.turn.specs.Turn.{turn_is, turn_of}
+use Rattle.turn.specs.Turn.{Turn, turn_is, turn_of}
 use Rattle.walk.specs.Clock.{at_clock}
 use Rattle.walk.proofs.Clock.{no_turn_reads_the_clock}
 use Rattle.walk.proofs.Bounds.{every_step_costs}

@@ -17,9 +17,8 @@ use Rattle.machine.specs.declared.Reply.TheVariants.{Done}
 use Rattle.machine.specs.Names.{number_of, line_vector}
 use Rattle.machine.specs.Reset.{reset_of}
 use Rattle.machine.proofs.Laws.{number_zero}
-use Rattle.turn.specs.declared.Turn.{Turn}
 use Rattle.requests.specs.Requests.{allowed_line, entry_effect, wake_effect}
-use Rattle.turn.specs.Turn.{turn_is, turn_of}
+use Rattle.turn.specs.Turn.{Turn, turn_is, turn_of}
 use Rattle.walk.proofs.Bounds.{every_step_costs}
 use Rattle.refusals.specs.Given.{Given, line_in}
 use Rattle.steps.specs.End.{End}

@@ -11,8 +11,8 @@ use Rattle.state.proofs.Laws.{ccr_below}
 use Rattle.effect.specs.declared.Effect.{Effect}
 use Rattle.effect.specs.Effect.{quiet}
 use Rattle.frames.specs.Frames.{frame_store, interrupt_effect, wait_effect}
-use Rattle.turn.specs.declared.Turn.{Turn}
 use Rattle.requests.specs.Requests.{entry_effect, wake_effect}
+use Rattle.turn.specs.Turn.{Turn}
 use Rattle.walk.specs.Words.{Words}
 use Rattle.walk.specs.Walk.{Before, Fits, Gives}
 use Rattle.walk.specs.Walk.Gives.{stores, untaken, waits, takes}

@@ -4,7 +4,8 @@ use Rattle.std.specs.Prelude.{ℕ, zero, suc, ◌+◌, ◌≡◌, Bool, true, fa
 use Rattle.word.specs.Word.{pick}
 use Rattle.memory.specs.Memory.{byte_at}
 use Rattle.state.specs.declared.State.{State}
-use Rattle.opcodes.specs.Kind.{RTI, group_of, member_of, SHORT_BRANCHES, LONG_BRANCHES}
+use Rattle.opcodes.specs.declared.kind.Kind.{Kind}
+use Rattle.opcodes.specs.Kind.{RTI, group_of, member_of, same, SHORT_BRANCHES, LONG_BRANCHES}
 use Rattle.opcodes.specs.Postbyte.{cost_of, untaken_of}
 use Rattle.codes.specs.Conditions.{condition_of}
 use Rattle.decode.specs.Decode.{cell_at, after_opcode}
@@ -18,7 +19,7 @@ use Rattle.run.specs.Run.{run_of}
 use Rattle.promises.specs.Steps.{after_steps, IsOfSteps}
 
 -- the branches that have a second figure, for where they are not taken: BRA to BLE and LBRA to LBLE
-abbrev pub branch_of : ℕ → Bool
+abbrev pub branch_of : Kind → Bool
 branch_of kind = eqb (group_of kind) SHORT_BRANCHES || eqb (group_of kind) LONG_BRANCHES
 
 -- which figure: of such a branch, by whether it is taken, and of any other instruction the first
@@ -35,7 +36,7 @@ tabled_instruction s m =
 
 -- RTI stands at PC, and the masks that it pulls allow a request of the line byte
 abbrev pub takes_a_request : State → List ℕ → ℕ → Bool
-takes_a_request s m line = eqb (cell_at m s.pc).kind RTI && ltb (line_after_pull s m line) no_line
+takes_a_request s m line = same (cell_at m s.pc).kind RTI && ltb (line_after_pull s m line) no_line
 
 -- The cost of a step, by whether a line is to be entered and whether the machine waits: the end of a wait, an entry, an idle cycle, and
 -- an instruction, which has the figure given.

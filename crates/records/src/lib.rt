@@ -16,15 +16,12 @@ pub fn run_table(machine: Machine, m: &mut [u8], t: Table, budget: u32) -> Answe
     ensures { Ends (run_of machine.state m.old (given_is (table_cycles t) (table_lines t)) budget) result m.new }
 {
     let n = table::held(t.count);
-    let cycles = t.cycles;
-    let lines = t.lines;
-    run::run(machine, m, &cycles[..n], &lines[..n], budget)
+    run::run(machine, m, &t.cycles[..n], &t.lines[..n], budget)
 }
 
 // The machine's run, with the schedule as a list of records.
 pub fn run(machine: Machine, m: &mut [u8], rs: &[Record], budget: u32) -> Answer
     ensures { Ends (run_of machine.state m.old (given_is (cycles_of rs.now) (lines_of rs.now)) budget) result m.new }
 {
-    let t = table::gather(rs);
-    run_table(machine, m, t, budget)
+    run_table(machine, m, table::gather(rs), budget)
 }

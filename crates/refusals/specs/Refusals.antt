@@ -1,10 +1,24 @@
 -- What a step and what a run refuse, and in which order (docs/MACHINE.md, "Numbered replies"). A later reply that refuses is added here.
-use Rattle.std.specs.Prelude.{ℕ, ◌+◌, Bool, not, ◌||◌, List, ltb, eqb, length}
+use Rattle.std.specs.Prelude.{ℕ, ◌+◌, Bool, not, ◌||◌, List, Result, Ok, Err, ltb, eqb, length}
 use Rattle.word.specs.Word.{pick}
 use Rattle.state.specs.declared.State.{State}
 use Rattle.schedule.specs.Schedule.{accepted, withdrawn, any_withdrawn}
 use Rattle.machine.specs.Names.{memory_size, record_limit, budget_limit, clock_limit, step_limit}
+use Rattle.refusals.specs.declared.Refusal.{Refusal}
+use Rattle.refusals.specs.declared.Refusal.TheVariants.{WrongMemory, WrongSchedule, WrongLine, PastLimit}
 use Rattle.refusals.specs.Given.{Given}
+
+-- the number of the reply that a refusal is answered with
+abbrev pub refusal_number : Refusal → ℕ
+refusal_number WrongMemory = 1
+refusal_number WrongSchedule = 2
+refusal_number WrongLine = 15
+refusal_number PastLimit = 3
+
+-- the same of what may be refused; 0 where it is not
+abbrev pub refused_number : {A : Type 0} → Result A Refusal → ℕ
+refused_number (Ok x) = 0
+refused_number (Err r) = refusal_number r
 
 -- whether a step is refused: reply 1 for the memory, then 15 for the line byte, then 3 for the clock
 abbrev pub refusal : State → List ℕ → ℕ → ℕ

@@ -1,56 +1,77 @@
 // What a step and what a run refuse: one function each, over one order, so that a later reply that refuses is added here and nowhere else.
 #![tactic(auto)]
 
-ghost use Rattle.std.specs.Prelude.{◌≡◌};
+ghost use Rattle.std.specs.Prelude.{ℕ, ◌≡◌, List, length};
 ghost use Rattle.word.specs.Word.{pick};
-ghost use Rattle.machine.specs.Names.{number_of};
+ghost use Rattle.machine.specs.Names.{memory_size, number_of};
 ghost use Rattle.refusals.specs.Given.{given_is};
-ghost use Rattle.refusals.specs.Refusals.{refusal, past_limit, run_refusal};
+ghost use Rattle.refusals.specs.Refusals.{refusal_number, refused_number, refusal, past_limit, run_refusal};
 
 use machine::{Machine, Reply};
+use schedule::Schedule;
 use state::State;
+
+// What may be refused. Each becomes the reply of the same name.
+#[derive(Clone, Copy, Debug, PartialEq, Eq)]
+pub enum Refusal {
+    WrongMemory,
+    WrongSchedule,
+    WrongLine,
+    PastLimit,
+}
+
+impl From<Refusal> for Reply {
+    ghost from_gives = { λ x r. number_of r ≡ refusal_number x };
+
+    fn from(refusal: Refusal) -> Reply {
+        match refusal {
+            Refusal::WrongMemory => Reply::WrongMemory,
+            Refusal::WrongSchedule => Reply::WrongSchedule,
+            Refusal::WrongLine => Reply::WrongLine,
+            Refusal::PastLimit => Reply::PastLimit,
+        }
+    }
+}
 
 // The clock and the budget may each be any number of 32 bits: their sum is taken in 64.
 fn past_limit(clock: u32, budget: u32) -> bool
     ensures { result ≡ past_limit clock budget }
 {
-    (budget > Machine::BUDGET_LIMIT) | (clock as u64 + budget as u64 > Machine::CLOCK_LIMIT)
+    (budget > Machine::BUDGET_LIMIT) | (u64::from(clock) + u64::from(budget) > Machine::CLOCK_LIMIT)
 }
 
-// Of what may be refused the first that is, in this order; Done where nothing is.
-fn first_of(memory: bool, schedule: bool, line: bool, limit: bool) -> Reply
-    ensures { number_of result ≡ pick memory 1 (pick schedule 2 (pick line 15 (pick limit 3 0))) }
+// Of what may be refused the first that is, in this order. Before all of them comes WrongMemory, where what is lent is no Memory: whoever
+// has one has tested that.
+fn first_of(schedule: bool, line: bool, limit: bool) -> Result<(), Refusal>
+    ensures { refused_number result ≡ pick schedule 2 (pick line 15 (pick limit 3 0)) }
 {
-    if memory {
-        return Reply::WrongMemory;
-    }
     if schedule {
-        return Reply::WrongSchedule;
+        return Err(Refusal::WrongSchedule);
     }
     if line {
-        return Reply::WrongLine;
+        return Err(Refusal::WrongLine);
     }
     if limit {
-        return Reply::PastLimit;
+        return Err(Refusal::PastLimit);
     }
-    Reply::Done
+    Ok(())
 }
 
-// What a step refuses: it is lent no schedule.
-pub fn step_refusal(s: State, m: &[u8], line: u8) -> Reply
-    ensures { number_of result ≡ refusal s m.now line }
+// What a step refuses that is lent a memory: it is lent no schedule.
+pub fn step_refusal(s: State, line: u8) -> Result<(), Refusal>
+    ensures { (m : List ℕ) → length m ≡ memory_size → refused_number result ≡ refusal s m line }
 {
     let gone = schedule::withdrawn(line);
     let far = s.clock > Machine::STEP_LIMIT;
-    first_of(m.len() != Machine::MEMORY, false, gone, far)
+    first_of(false, gone, far)
 }
 
-// What a run refuses.
-pub fn run_refusal(s: State, m: &[u8], cycles: &[u32], lines: &[u8], budget: u32) -> Reply
-    ensures { number_of result ≡ run_refusal s m.now (given_is cycles.now lines.now) budget }
+// What a run refuses that is lent a memory.
+pub fn run_refusal(s: State, given: Schedule<'_>, budget: u32) -> Result<(), Refusal>
+    ensures { (m : List ℕ) → length m ≡ memory_size → refused_number result ≡ run_refusal s m (given_is given.entry.cycles.now given.entry.lines.now) budget }
 {
-    let good = schedule::accepted(cycles, lines, Machine::RECORDS);
-    let gone = schedule::any_withdrawn(lines);
+    let good = given.accepted(Machine::RECORDS);
+    let gone = given.any_withdrawn();
     let far = past_limit(s.clock, budget);
-    first_of(m.len() != Machine::MEMORY, !good, gone, far)
+    first_of(!good, gone, far)
 }

@@ -1,9 +1,13 @@
--- The lowest line that is up goes first, XIRQ is let in by X alone, and RTI by its two cases. Assumes nothing.
+-- The lowest line that is up goes first, XIRQ is let in by X alone, and RTI by its two cases; a line as one that is there, or none.
+-- Assumes nothing.
 use Prim.Native.Nat.{ℕ, ◌*◌, ◌/◌, ◌%◌, ◌<◌, ◌≤◌}
 use native.Mathlib.Omega.{arith}
 use mathlib.Core.Path.{◌≡◌, sym, ◌∙◌, ap}
 use mathlib.Core.Bool.{Bool, true, false, ◌&&◌, not}
 use mathlib.Core.List.{List}
+use native.Mathlib.Decide.{dec_lt}
+use Rattle.std.specs.Prelude.{Some, None}
+use Rattle.std.proofs.lemmas.Option.{none-some, same_Some}
 use lib.Dec.{T, eqb, eqb→eq, ltb}
 use borrow.Author.Tests.{eq-eqb, lt-ltb, le-ltb}
 use Rattle.word.specs.Word.{pick, bit_of}
@@ -15,7 +19,7 @@ use Rattle.effect.specs.declared.Effect.{Effect}
 use Rattle.effect.specs.Effect.{quiet}
 use Rattle.frames.specs.Frames.{pulled_frame}
 use Rattle.machine.specs.Names.{no_line, return_and_entry_cost}
-use Rattle.requests.specs.Requests.{lowest_line, LowestFirst, allowed_line, vectored, rti_effect}
+use Rattle.requests.specs.Requests.{lowest_line, LowestFirst, allowed_line, as_line, vectored, rti_effect}
 
 -- the bits from 1 to 5, as a number below 32, are those of the line byte
 five_bits :
@@ -96,3 +100,18 @@ module _ (s : State) (m : List ℕ) (line cost : ℕ) {t : State} {k : ℕ} (pul
 
   pub returns_plainly : no_line ≤ k → rti_effect s m line cost ≡ quiet t cost
   returns_plainly none = sym by_line ∙ ap (by t k) (le-ltb k no_line none)
+
+-- a line that is there is its number, and none of the numbers of a line stands where there is none
+pub line_there : (n k : ℕ) → as_line n ≡ Some k → (n ≡ k) × (ltb n no_line ≡ true)
+line_there n k e = go (dec_lt n no_line)
+  where
+    go : Dec (n < no_line) → (n ≡ k) × (ltb n no_line ≡ true)
+    go (yes low) = let is = lt-ltb n no_line low in (same_Some n k (rw is at e), is)
+    go (no high) = absurd (none-some k (rw (le-ltb n no_line (omega (arith, high))) at e))
+
+pub line_absent : (n : ℕ) → as_line n ≡ None → ltb n no_line ≡ false
+line_absent n e = go (dec_lt n no_line)
+  where
+    go : Dec (n < no_line) → ltb n no_line ≡ false
+    go (yes low) = absurd (none-some n (sym (rw (lt-ltb n no_line low) at e)))
+    go (no high) = le-ltb n no_line (omega (arith, high))

@@ -1,6 +1,6 @@
 -- The lines of request: which is entered, what an entry and the end of a wait do, and RTI, which may take a request itself
 -- (docs/MACHINE.md, "Requests").
-use Rattle.std.specs.Prelude.{ℕ, ◌/◌, ◌%◌, ◌≡◌, true, false, ◌&&◌, not, List, ltb, eqb}
+use Rattle.std.specs.Prelude.{ℕ, ◌/◌, ◌%◌, ◌≡◌, true, false, ◌&&◌, not, List, Option, None, Some, ltb, eqb}
 use Rattle.word.specs.Word.{pick, bit_of}
 use Rattle.memory.specs.Memory.{word_at}
 use Rattle.state.specs.declared.Flags.{Flags}
@@ -19,6 +19,10 @@ lowest_line line =
     (pick (bit_of 2 line) 2
     (pick (bit_of 3 line) 3
     (pick (bit_of 4 line) 4 (pick (bit_of 5 line) 5 no_line))))
+
+-- a line by its number as one that is there, or none
+abbrev pub as_line : ℕ → Option ℕ
+as_line k = pick (ltb k no_line) (Some k) None
 
 -- The same by what the bits from 1 to 5 are as a number, where 6 is none, so that the order cannot be changed here and in the code
 -- together. Proved as `lowest_first` in proofs/Laws.antt.

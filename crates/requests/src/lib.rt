@@ -1,48 +1,40 @@
 // The lines of request: which is entered at a boundary, what its entry or the end of a wait does, and RTI, which may take one itself.
 #![tactic(auto)]
 
-ghost use Rattle.std.specs.Prelude.{◌≡◌, length};
+ghost use Rattle.std.specs.Prelude.{◌≡◌};
 ghost use Rattle.machine.specs.Names.{line_vector};
-ghost use Rattle.requests.specs.Requests.{lowest_line, allowed_line, masked as masked_of, entry_effect, vectored as vectored_of, wake_effect, rti_effect};
+ghost use Rattle.requests.specs.Requests.{as_line, lowest_line, allowed_line, masked as masked_of, entry_effect, vectored as vectored_of, wake_effect, rti_effect};
 
 use effect::Effect;
 use machine::Machine;
+use memory::Memory;
 use state::{Flags, State};
 
-fn lowest_line(line: u8) -> u8
-    ensures { result ≡ lowest_line line }
+// The lowest of the lines 1 to 5 that is up.
+fn lowest_line(line: u8) -> Option<u8>
+    ensures { result ≡ as_line (lowest_line line) }
 {
-    if line / 2 % 2 == 1 {
-        return 1;
+    // The bits 1 to 5.
+    let up = line & 0b11_1110;
+    if up == 0 {
+        return None;
     }
-    if line / 4 % 2 == 1 {
-        return 2;
-    }
-    if line / 8 % 2 == 1 {
-        return 3;
-    }
-    if line / 16 % 2 == 1 {
-        return 4;
-    }
-    if line / 32 % 2 == 1 {
-        return 5;
-    }
-    Machine::NO_LINE
+    Some(up.trailing_zeros() as u8)
 }
 
-// The line to be entered, or NO_LINE where none is allowed. At most boundaries no line is up, so that is asked first.
-pub fn allowed_line(f: Flags, line: u8) -> u8
-    ensures { result ≡ allowed_line f line }
+// The line to be entered. At most boundaries no line is up, so that is asked first.
+pub fn allowed_line(f: Flags, line: u8) -> Option<u8>
+    ensures { result ≡ as_line (allowed_line f line) }
 {
     if line == 0 {
-        return Machine::NO_LINE;
+        return None;
     }
     let warned = (line % 2 == 1) & !f.x;
     if warned {
-        return 0;
+        return Some(0);
     }
     if f.i {
-        return Machine::NO_LINE;
+        return None;
     }
     lowest_line(line)
 }
@@ -59,31 +51,34 @@ fn masked(k: u8, f: Flags) -> Flags
 fn line_vector(k: u8) -> u16
     ensures { result ≡ line_vector k }
 {
-    word::minus(Machine::XIRQ_VECTOR, 2 * (k as u16))
+    word::minus(Machine::XIRQ_VECTOR, 2 * u16::from(k))
 }
 
 // Line k is entered: the frame holds the flags as they were.
-pub fn entry(s: State, m: &[u8], k: u8) -> Effect
-    requires { length m.now ≡ 65536 }
+#[tactic(auto, unfolding(crate::specs::Requests::entry_effect))]
+pub fn entry(s: State, m: &Memory, k: u8) -> Effect
     ensures { result ≡ entry_effect s m.now k }
 {
-    let f = s.flags;
-    frames::interrupt(s, m, line_vector(k), masked(k, f), Machine::ENTRY_COST)
+    frames::interrupt(
+        s,
+        m,
+        line_vector(k),
+        masked(k, s.flags),
+        Machine::ENTRY_COST,
+    )
 }
 
 // Line k is taken, and the frame is in place.
-fn vectored(s: State, m: &[u8], k: u8) -> State
-    requires { length m.now ≡ 65536 }
+fn vectored(s: State, m: &Memory, k: u8) -> State
     ensures { result ≡ vectored_of s m.now k }
 {
-    let f = s.flags;
     let target = memory::read_word(m, line_vector(k));
-    s.with_flags(masked(k, f)).with_pc(target)
+    s.with_flags(masked(k, s.flags)).with_pc(target)
 }
 
 // Line k ends a wait. The frame was pushed when the wait began.
-pub fn wake(s: State, m: &[u8], k: u8) -> Effect
-    requires { length m.now ≡ 65536 }
+#[tactic(auto, unfolding(crate::specs::Requests::wake_effect))]
+pub fn wake(s: State, m: &Memory, k: u8) -> Effect
     ensures { result ≡ wake_effect s m.now k }
 {
     effect::quiet(vectored(s, m, k).with_waiting(false), Machine::WAKE_COST)
@@ -91,14 +86,11 @@ pub fn wake(s: State, m: &[u8], k: u8) -> Effect
 
 // RTI. Where the masks that it pulls allow a request of `line`, the byte in force where it begins, that is taken in the same step, and the
 // frame stays for it; else RTI has `cost`.
-pub fn return_from_interrupt(s: State, m: &[u8], line: u8, cost: u8) -> Effect
-    requires { length m.now ≡ 65536 }
+pub fn return_from_interrupt(s: State, m: &Memory, line: u8, cost: u8) -> Effect
     ensures { result ≡ rti_effect s m.now line cost }
 {
     let pulled = frames::pulled_frame(s, m);
-    let f = pulled.flags;
-    let k = allowed_line(f, line);
-    if k < Machine::NO_LINE {
+    if let Some(k) = allowed_line(pulled.flags, line) {
         let kept = pulled.with_sp(s.sp);
         return effect::quiet(vectored(kept, m, k), Machine::RETURN_AND_ENTRY_COST);
     }

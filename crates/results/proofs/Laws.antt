@@ -9,9 +9,15 @@ use mathlib.Core.Bool.{Bool, true, false, ◌&&◌, ◌||◌, not}
 use lib.Dec.{leb, ltb, eqb}
 use lib.Pow.{pow_pos, field}
 use borrow.Author.Tests.{le-leb, lt-leb, le-ltb, lt-ltb, eq-eqb, leb-true, leb-false}
+use Rattle.std.specs.Int.{from_bool}
 use Rattle.word.specs.Word.{bit_of}
 use Rattle.state.specs.Ccr.{weight_of}
 use Rattle.results.specs.Results.{carried, borrowed}
+
+-- a carry as a number, as `u64::from` gives it
+pub carry_counts : (c : Bool) → from_bool c ≡ weight_of c 1
+carry_counts true = refl
+carry_counts false = refl
 
 -- a carry counts for one at most
 pub one_at_most : (c : Bool) → weight_of c 1 ≤ 1
@@ -42,6 +48,10 @@ bit_upper k n =
 -- the top bit of a number of k + 1 bits
 pub top_upper : (k n : ℕ) → n < 2 ^ suc k → leb (2 ^ k) n ≡ bit_of k n
 top_upper k n l = rw (mod-eq_of_lt l) at (bit_upper k n)
+
+-- half of the numbers of k + 1 bits
+pub half_span : (k : ℕ) → 2 ^ suc k / 2 ≡ 2 ^ k
+half_span k = omega arith
 
 -- The formula for a carry, of two numbers below g, whose upper half begins at h: their sum is r, or r + g where it holds.
 carries :
@@ -89,6 +99,11 @@ carry_from k x m c r s l e q =
     rw (← bit_upper k x, ← bit_upper k m, ← bit_upper k r)
     (carries (2 ^ k) g (x % g) (m % g) c (r % g) (leb g s) _ _ _ refl refl refl (omega arith) (cut k x) (cut k m) (cut k r) l
     (sym e ∙ wraps g s (omega (arith, cut k x, cut k m)) ∙ rw same))
+
+-- the carry from bit k, the top one of x and m: their sum has no place in k + 1 bits
+pub carry_out : (k x m c : ℕ) → c ≤ 1 → x < 2 ^ suc k → m < 2 ^ suc k → leb (2 ^ suc k) (x + m + c) ≡ carried k x m ((x + m + c) % 2 ^ suc k)
+carry_out k x m c l i j =
+    carry_from k x m c ((x + m + c) % 2 ^ suc k) (x + m + c) l (rw (mod-eq_of_lt i, mod-eq_of_lt j)) (mod-eq_of_lt (cut k (x + m + c)))
 
 -- a difference modulo g, and what was taken away, is the number again, and g where it was too small
 undone : (g x m c : ℕ) → zero < g → c ≤ 1 → x < g → m < g → (x + g - (m + c)) % g + m + c ≡ x + weight_of (ltb x (m + c)) g

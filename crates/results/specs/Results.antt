@@ -5,14 +5,23 @@ use Rattle.std.specs.Prelude.{ℕ, Bool, false, ◌&&◌, ◌||◌, not, eqb}
 use Rattle.word.specs.Word.{bit_of}
 use Rattle.state.specs.declared.Flags.{Flags}
 use Rattle.state.specs.Ccr.{set_n, set_z, set_v, set_c}
-use Rattle.results.specs.declared.Byte.{Byte}
-use Rattle.results.specs.declared.Word.{Word}
+use Rattle.results.specs.declared.Outcome.{Outcome}
+
+-- a number, of whatever width, with the codes that it gives; a value of a width is a number, and `of` makes it one
+abbrev pub outcome_of : {W : Type 0} → (ℕ → W) → ℕ → (ℕ → Flags) → Outcome W
+outcome_of of r codes = record { value = of r; flags = codes r }
 
 -- a result of 8 bits, with the codes that it gives
+abbrev pub Byte : Type 0
+Byte = Outcome ℕ
+
 abbrev pub byte_of : ℕ → (ℕ → Flags) → Byte
 byte_of r codes = record { value = r; flags = codes r }
 
 -- a result of 16 bits, with the codes that it gives
+abbrev pub Word : Type 0
+Word = Outcome ℕ
+
 abbrev pub wide_of : ℕ → (ℕ → Flags) → Word
 wide_of r codes = record { value = r; flags = codes r }
 

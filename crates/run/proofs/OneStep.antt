@@ -13,8 +13,7 @@ use Rattle.schedule.specs.Schedule.{in_force, line_at}
 use Rattle.effect.specs.declared.Effect.{Effect}
 use Rattle.machine.specs.Names.{number_of}
 use Rattle.machine.proofs.Laws.{number_zero}
-use Rattle.turn.specs.declared.Turn.{Turn}
-use Rattle.turn.specs.Turn.{turn_of}
+use Rattle.turn.specs.Turn.{Turn, turn_of}
 use Rattle.walk.proofs.Turns.{turn_idle}
 use Rattle.walk.proofs.Bounds.{every_step_costs}
 use Rattle.refusals.specs.Given.{Given, given_is}

@@ -8,7 +8,8 @@ ghost use Rattle.steps.specs.End.{Ends};
 ghost use Rattle.run.specs.Step.{step_of};
 ghost use Rattle.run.specs.Run.{run_of};
 
-use machine::Machine;
+use machine::{Machine, Reply};
+use schedule::Schedule;
 use steps::Answer;
 
 // No step costs more, so that this budget is enough for any one.
@@ -19,15 +20,19 @@ pub fn step(machine: Machine, m: &mut [u8], line: u8) -> Answer
     ensures { Ends (step_of machine.state m.old line) result m.new }
 {
     let s = machine.state;
-    let refused = refusals::step_refusal(s, &m[..], line);
-    if refused.number() != 0 {
-        return steps::answered(refused, s, 0);
+    let Some(memory) = m.as_mut_array() else {
+        return steps::answered(Reply::WrongMemory, s, 0);
+    };
+    if let Err(refusal) = refusals::step_refusal(s, line) {
+        return steps::answered(Reply::from(refusal), s, 0);
     }
-    let map = opcodes::map();
-    let grid = opcodes::grid();
-    let cycles: [u32; 1] = [0];
-    let lines: [u8; 1] = [line];
-    steps::go(&map, &grid, s, m, &cycles[..], &lines[..], ONE_STEP, 1)
+    let cycles = [0u32];
+    let lines = [line];
+    let schedule = Schedule {
+        cycles: &cycles,
+        lines: &lines,
+    };
+    steps::go(s, memory, schedule, ONE_STEP, 1)
 }
 
 // Steps, each under the line byte in force at its boundary, until one costs more than is left of the budget or the machine stops.
@@ -36,11 +41,12 @@ pub fn run(machine: Machine, m: &mut [u8], cycles: &[u32], lines: &[u8], budget:
     ensures { Ends (run_of machine.state m.old (given_is cycles.now lines.now) budget) result m.new }
 {
     let s = machine.state;
-    let refused = refusals::run_refusal(s, &m[..], cycles, lines, budget);
-    if refused.number() != 0 {
-        return steps::answered(refused, s, 0);
+    let Some(memory) = m.as_mut_array() else {
+        return steps::answered(Reply::WrongMemory, s, 0);
+    };
+    let schedule = Schedule { cycles, lines };
+    if let Err(refusal) = refusals::run_refusal(s, schedule, budget) {
+        return steps::answered(Reply::from(refusal), s, 0);
     }
-    let map = opcodes::map();
-    let grid = opcodes::grid();
-    steps::go(&map, &grid, s, m, cycles, lines, budget, budget + 1)
+    steps::go(s, memory, schedule, budget, budget + 1)
 }

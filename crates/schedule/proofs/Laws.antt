@@ -1,14 +1,14 @@
 -- The laws of the schedule, on the definitions alone. Assumes nothing.
-use Prim.Native.Nat.{ℕ, zero, suc, ◌+◌, ◌-◌, ◌<◌, ◌≤◌}
+use Prim.Native.Nat.{ℕ, zero, suc, ◌<◌, ◌≤◌}
 use native.Mathlib.Omega.{arith}
 use native.Mathlib.Numerals.{add-one}
-use mathlib.Core.Path.{◌≡◌, refl, sym, ◌∙◌, ap}
+use mathlib.Core.Path.{◌≡◌, refl, ◌∙◌, ap}
 use mathlib.Core.Bool.{Bool, true, false, ◌&&◌, ◌||◌, true≢false}
 use mathlib.Core.List.{List, [], ◌∷◌}
 use lib.Dec.{leb, ltb, eqb}
-use lib.ListN.{length, get_or, drop, drop_of_length-le, get_or-eq_default}
-use lib.Seq.{drop-cons}
-use borrow.Author.Tests.{lt-ltb, le-ltb, ltb-true, leb-true, leb-false, le-leb, lt-leb, eqb-true}
+use lib.ListN.{length, get_or}
+use borrow.Author.Tests.{ltb-true, leb-true, leb-false, le-leb, lt-leb, eqb-true}
+use Rattle.std.specs.List.{IsAllAdjacentAnswer}
 use Rattle.word.specs.Word.{pick}
 use Rattle.word.proofs.Table.{at_number, same, same_is}
 use Rattle.schedule.specs.declared.Watch.{Watch}
@@ -169,62 +169,29 @@ pub line_still :
 line_still cs ls clock clock' up same h before =
     line_of_place cs ls clock' up same ∙ ap (line_before ls) (passed_still cs clock clock' h before)
 
--- past the last record there is no line byte, and within them it is that of the record before the place
-pub line_past : (ls : List ℕ) (place : ℕ) → length ls < place → 0 ≡ line_before ls place
-line_past ls zero past = refl
-line_past ls (suc k) past = sym (get_or-eq_default ls 0 (omega (arith, past)))
+-- what the tests of each cycle number and the next say
+rising_all : (cs : List ℕ) → ((k d : ℕ) → suc k < length cs → true ≡ ltb (get_or cs k d) (get_or cs (suc k) d)) → true ≡ rising cs
+unfolding rising rising_after
+rising_all [] up = refl
+rising_all (c ∷ []) up = refl
+rising_all (c ∷ d ∷ ds) up =
+    let above : true ≡ ltb c d = up 0 0 (omega arith) in
+    rw (← above) (rising_all (d ∷ ds) (λ k e inside. up (suc k) e (omega (arith, inside))))
 
-one_less_lem : (k : ℕ) → suc k - 1 ≡ k
-one_less_lem k = omega arith
+rising_not : (cs : List ℕ) (k : ℕ) → suc k < length cs → ((d : ℕ) → false ≡ ltb (get_or cs k d) (get_or cs (suc k) d)) → false ≡ rising cs
+unfolding rising rising_after
+rising_not [] k inside down = absurd (omega (arith, inside))
+rising_not (c ∷ []) k inside down = absurd (omega (arith, inside))
+rising_not (c ∷ d ∷ ds) zero inside down = let below : false ≡ ltb c d = down 0 in rw (← below) refl
+rising_not (c ∷ d ∷ ds) (suc k) inside down = go (ltb c d) (rising_not (d ∷ ds) k (omega (arith, inside)) down)
+  where
+    go : (b : Bool) → false ≡ rising_after d ds → false ≡ b && rising_after d ds
+    go true rest = rest
+    go false rest = refl
 
-pub line_inside : (ls : List ℕ) (place : ℕ) → (place ≡ 0 → ⊥) → get_or ls (place - 1) 0 ≡ line_before ls place
-line_inside ls zero some = absurd (some refl)
-line_inside ls (suc k) some = rw (one_less_lem k)
-
--- what comes at a place in the schedule is its record, and past it nothing does
-pub coming_inside : (cs : List ℕ) (place : ℕ) → place < length cs → get_or cs place 0 ≡ coming_at cs place
-coming_inside [] place inside = absurd (omega (arith, inside))
-coming_inside (c ∷ cs) zero inside = refl
-coming_inside (c ∷ cs) (suc place) inside = coming_inside cs place (omega (arith, inside))
-
-pub coming_past : (cs : List ℕ) (place : ℕ) → length cs ≤ place → 4294967295 ≡ coming_at cs place
-coming_past cs place past = sym (get_or-eq_default cs 4294967295 past)
-
--- a walk over the cycle numbers: the next one is above the last, or it is not and they do not rise, or there is none
-pub rising_on : (cs : List ℕ) (last i : ℕ) → i < length cs → last < get_or cs i 0 → rising_after last (drop i cs) ≡ rising_after (get_or cs i 0) (drop (i + 1) cs)
-unfolding rising_after
-rising_on cs last i inside up = rw (drop-cons cs i 0 inside, lt-ltb last (get_or cs i 0) up, add-one i)
-
-pub rising_not : (cs : List ℕ) (last i : ℕ) → i < length cs → get_or cs i 0 ≤ last → rising_after last (drop i cs) ≡ false
-unfolding rising_after
-rising_not cs last i inside down = rw (drop-cons cs i 0 inside, le-ltb last (get_or cs i 0) down)
-
-pub rising_all : (cs : List ℕ) (last i : ℕ) → length cs ≤ i → rising_after last (drop i cs) ≡ true
-unfolding rising_after
-rising_all cs last i past = rw (drop_of_length-le cs {i = i} past)
-
-pub rising_none : (cs : List ℕ) → length cs ≡ 0 → true ≡ rising cs
-unfolding rising
-rising_none [] e = refl
-rising_none (c ∷ cs) e = absurd (omega (arith, e))
-
-pub rising_some : (cs : List ℕ) → (length cs ≡ 0 → ⊥) → rising_after (get_or cs 0 0) (drop 1 cs) ≡ rising cs
-unfolding rising
-rising_some [] some = absurd (some refl)
-rising_some (c ∷ cs) some = refl
-
--- a walk over the line bytes: the next one is withdrawn, or the rest tells, or there is none
-pub withdrawn_here : (ls : List ℕ) (i : ℕ) → i < length ls → withdrawn (get_or ls i 0) ≡ true → any_withdrawn (drop i ls) ≡ true
-unfolding any_withdrawn
-withdrawn_here ls i inside is = rw (drop-cons ls i 0 inside, is)
-
-pub withdrawn_on : (ls : List ℕ) (i : ℕ) → i < length ls → withdrawn (get_or ls i 0) ≡ false → any_withdrawn (drop i ls) ≡ any_withdrawn (drop (i + 1) ls)
-unfolding any_withdrawn
-withdrawn_on ls i inside is = rw (drop-cons ls i 0 inside, is, add-one i)
-
-pub withdrawn_none : (ls : List ℕ) (i : ℕ) → length ls ≤ i → any_withdrawn (drop i ls) ≡ false
-unfolding any_withdrawn
-withdrawn_none ls i past = rw (drop_of_length-le ls {i = i} past)
+pub rising_tested : (cs : List ℕ) (r : Bool) → IsAllAdjacentAnswer (λ x y b. b ≡ ltb x y) cs r → r ≡ rising cs
+rising_tested cs true up = rising_all cs (λ k d inside. rw (add-one k) at (up k d (omega (arith, inside))))
+rising_tested cs false down = rising_not cs down.0 (omega (arith, down.1)) (λ d. rw (add-one down.0) at (down.2 d))
 
 -- a disjunction that does not hold
 pub or_left : (a b : Bool) → a || b ≡ false → a ≡ false

@@ -1,5 +1,6 @@
 -- The schedule (docs/MACHINE.md, "Requests" and reply 2): records, each a cycle number and a line byte, as two lists of the same length.
-use Rattle.std.specs.Prelude.{ℕ, zero, suc, ◌<◌, ◌≤◌, ◌≡◌, Bool, true, false, ◌&&◌, ◌||◌, List, [], ◌∷◌, leb, ltb, eqb, length, get_or}
+use Rattle.std.specs.Prelude.{ℕ, zero, suc, ◌<◌, ◌≤◌, ◌≡◌, Bool, true, ◌&&◌, ◌||◌, List, [], ◌∷◌, leb, ltb, eqb, length, get_or}
+use Rattle.std.specs.List.{list_any}
 use Rattle.word.specs.Word.{pick, bit_of}
 use Rattle.schedule.specs.declared.Watch.{Watch}
 
@@ -28,8 +29,7 @@ WithdrawnFrom64 = (line : ℕ) → line < 256 → withdrawn line ≡ leb 64 line
 
 -- a list of line bytes of which one has
 unfoldable pub any_withdrawn : List ℕ → Bool
-any_withdrawn [] = false
-any_withdrawn (l ∷ ls) = withdrawn l || any_withdrawn ls
+any_withdrawn lines = list_any withdrawn lines
 
 -- the line byte in force at a clock value, where `before` is the one before these records: the last record's at or before it
 unfoldable pub in_force : ℕ → List ℕ → List ℕ → ℕ → ℕ

@@ -16,19 +16,7 @@ pub struct Watch {
 fn rising(cycles: &[u32]) -> bool
     ensures { result ≡ rising_of cycles.now }
 {
-    if cycles.len() == 0 {
-        return true;
-    }
-    let mut last = cycles[0];
-    let mut i = 1;
-    while i < cycles.len() {
-        if cycles[i] <= last {
-            return false;
-        }
-        last = cycles[i];
-        i += 1;
-    }
-    true
+    cycles.is_sorted_by(|before, after| before < after)
 }
 
 // Whether this is a list of at most `most` records whose cycle numbers strictly rise.
@@ -47,17 +35,11 @@ pub fn withdrawn(line: u8) -> bool
 }
 
 // Whether one of the line bytes has, wherever it stands: also one that never comes into force.
+#[tactic(auto, unfolding(crate::specs::Schedule::any_withdrawn))]
 pub fn any_withdrawn(lines: &[u8]) -> bool
     ensures { result ≡ any_withdrawn lines.now }
 {
-    let mut i = 0;
-    while i < lines.len() {
-        if withdrawn(lines[i]) {
-            return true;
-        }
-        i += 1;
-    }
-    false
+    lines.iter().any(|line| withdrawn(*line))
 }
 
 // How many records are at or before a clock value, where `from` of them are known to be.
@@ -65,47 +47,35 @@ fn passed(cycles: &[u32], from: usize, clock: u32) -> usize
     requires { from ≤ passed_of cycles.now clock }
     ensures { result ≡ passed_of cycles.now clock }
 {
-    let mut place = from;
-    while place < cycles.len() {
+    for place in from..cycles.len() {
         if cycles[place] > clock {
             return place;
         }
-        place += 1;
     }
-    place
+    cycles.len()
 }
 
 // The line byte of the last of the first `place` records.
 fn line_before(lines: &[u8], place: usize) -> u8
     ensures { result ≡ line_before lines.now place }
 {
-    if place == 0 {
-        return 0;
+    match place.checked_sub(1) {
+        Some(last) => lines.get(last).copied().unwrap_or(0),
+        None => 0,
     }
-    if place > lines.len() {
-        return 0;
-    }
-    lines[place - 1]
 }
 
 // The clock value at which the record at a place comes into force. Past the last record none does: no clock reaches that number.
 fn coming(cycles: &[u32], place: usize) -> u32
     ensures { result ≡ coming_at cycles.now place }
 {
-    if place < cycles.len() {
-        return cycles[place];
-    }
-    4294967295
+    cycles.get(place).copied().unwrap_or(u32::MAX)
 }
 
 fn watch_is(place: usize, line: u8, due: u32) -> Watch
     ensures { result ≡ watch_is place line due }
 {
-    Watch {
-        place: place,
-        line: line,
-        due: due,
-    }
+    Watch { place, line, due }
 }
 
 fn watch_from(cycles: &[u32], lines: &[u8], from: usize, clock: u32) -> Watch
@@ -132,4 +102,38 @@ pub fn next_watch(cycles: &[u32], lines: &[u8], w: Watch, clock: u32) -> Watch
         return w;
     }
     watch_from(cycles, lines, w.place, clock)
+}
+
+// A schedule as a run is lent it: the cycle numbers of its records, and their line bytes, which go through a run together.
+#[derive(Clone, Copy)]
+pub struct Schedule<'a> {
+    pub cycles: &'a [u32],
+    pub lines: &'a [u8],
+}
+
+impl Schedule<'_> {
+    pub fn accepted(self, most: usize) -> bool
+        ensures { result ≡ accepted_of most self.entry.cycles.now self.entry.lines.now }
+    {
+        accepted(self.cycles, self.lines, most)
+    }
+
+    pub fn any_withdrawn(self) -> bool
+        ensures { result ≡ any_withdrawn self.entry.lines.now }
+    {
+        any_withdrawn(self.lines)
+    }
+
+    pub fn first_watch(self, clock: u32) -> Watch
+        ensures { result ≡ watch_at self.entry.cycles.now self.entry.lines.now clock }
+    {
+        first_watch(self.cycles, self.lines, clock)
+    }
+
+    pub fn next_watch(self, w: Watch, clock: u32) -> Watch
+        requires { Watched self.cycles.now self.lines.now clock w }
+        ensures { result ≡ watch_at self.entry.cycles.now self.entry.lines.now clock }
+    {
+        next_watch(self.cycles, self.lines, w, clock)
+    }
 }

@@ -5,9 +5,7 @@ use Rattle.std.specs.Prelude.{ℕ, suc, ◌+◌, ◌*◌, ◌/◌, ◌%◌, ◌^
 use Rattle.word.specs.Word.{bit_of}
 use Rattle.state.specs.declared.Flags.{Flags}
 use Rattle.state.specs.Ccr.{weight_of}
-use Rattle.results.specs.declared.Byte.{Byte}
-use Rattle.results.specs.declared.Word.{Word}
-use Rattle.results.specs.Results.{byte_of, wide_of, set_nzvc, exclusive_or}
+use Rattle.results.specs.Results.{Byte, Word, byte_of, wide_of, set_nzvc, exclusive_or}
 
 -- all bits one place to the left, and `low` into bit 0, as on the pages of ASL (p. 6-19), ROL (6-170)
 abbrev pub left_of : ℕ → ℕ → Bool → ℕ

@@ -43,6 +43,7 @@ pub struct State {
 }
 
 impl Flags {
+    // `cleared`, here and below, and no derived `Default`: that is no plainer, since a caller's line would no longer say which value.
     pub fn cleared() -> Self
         ensures { result ≡ no_flags }
     {
@@ -114,7 +115,8 @@ impl Flags {
         self
     }
 
-    // The condition codes as a byte.
+    // The condition codes as a byte. This way and back are methods and no `From`: there is a second way back, `take_ccr`, and a caller's
+    // line is to say which.
     pub fn ccr(self) -> u8
         ensures { result ≡ ccr_of self }
     {
@@ -130,15 +132,16 @@ impl Flags {
     pub fn of_ccr(b: u8) -> Self
         ensures { result ≡ flags_of b }
     {
+        let bit = |k: u32| b >> k & 1 == 1;
         Flags {
-            s: b / 128 % 2 == 1,
-            x: b / 64 % 2 == 1,
-            h: b / 32 % 2 == 1,
-            i: b / 16 % 2 == 1,
-            n: b / 8 % 2 == 1,
-            z: b / 4 % 2 == 1,
-            v: b / 2 % 2 == 1,
-            c: b / 1 % 2 == 1,
+            s: bit(7),
+            x: bit(6),
+            h: bit(5),
+            i: bit(4),
+            n: bit(3),
+            z: bit(2),
+            v: bit(1),
+            c: bit(0),
         }
     }
 
@@ -155,7 +158,7 @@ impl Flags {
 fn weight(t: bool, w: u8) -> u8
     ensures { (result ≡ weight_of t w) × (result ≤ w) }
 {
-    if t { w } else { 0 }
+    u8::from(t) * w
 }
 
 impl Standing {
@@ -249,8 +252,7 @@ impl State {
     pub fn with_waiting(self, waiting: bool) -> Self
         ensures { result ≡ with_waiting self waiting }
     {
-        let standing = self.standing;
-        self.with_standing(standing.with_waiting(waiting))
+        self.with_standing(self.standing.with_waiting(waiting))
     }
 
     pub fn with_clock(mut self, clock: u32) -> Self

@@ -19,8 +19,7 @@ use Rattle.schedule.specs.Schedule.{rising, passed, coming_at, watch_at}
 use Rattle.schedule.proofs.Laws.{coming_later, line_still}
 use Rattle.requests.specs.Requests.{allowed_line}
 use Rattle.refusals.specs.Given.{Given, line_in}
-use Rattle.turn.specs.declared.Turn.{Turn}
-use Rattle.turn.specs.Turn.{turn_is, turn_of}
+use Rattle.turn.specs.Turn.{Turn, turn_is, turn_of}
 use Rattle.steps.specs.End.{after}
 use Rattle.steps.specs.Steps.{goes_on}
 use Rattle.steps.specs.Idle.{idle_cycles, IdlesAtOnce}

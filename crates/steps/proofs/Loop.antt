@@ -5,6 +5,7 @@ use mathlib.Core.Path.{◌≡◌, refl, sym, ◌∙◌, ap}
 use mathlib.Core.Bool.{true}
 use mathlib.Core.List.{List}
 use lib.ListN.{length}
+use Rattle.std.specs.Prelude.{Err}
 use borrow.Author.Tests.{lt-ltb, le-ltb, eq-eqb, ne_eqb}
 use Rattle.state.specs.declared.State.{State}
 use Rattle.schedule.specs.declared.Watch.{Watch}
@@ -14,7 +15,10 @@ use Rattle.memory.specs.Memory.{committed, bytes_stored}
 use Rattle.memory.proofs.Laws.{store_keeps}
 use Rattle.machine.specs.declared.Reply.TheVariants.{Done}
 use Rattle.machine.specs.Names.{number_of}
-use Rattle.turn.specs.declared.Turn.{Turn}
+use Rattle.decode.specs.declared.Halt.{Halt}
+use Rattle.decode.specs.declared.Halt.TheVariants.{Stopped, Reserved}
+use Rattle.decode.specs.Decode.{halted}
+use Rattle.turn.specs.Turn.{Turn, turn_from}
 use Rattle.steps.specs.declared.Answer.{Answer}
 use Rattle.refusals.specs.Given.{Given, line_in}
 use Rattle.steps.specs.End.{End, end_is, ends_here, after, Ends}
@@ -239,6 +243,21 @@ pub ends_stopped :
 ends_stopped zero g some t is other r reply state cycles = absurd (some refl)
 ends_stopped (suc k) g some t is other r reply state cycles =
     ends_at g _ (run_stops k _ _ _ _ (rw is at other)) r (ap number_of reply ∙ ap (λ t. number_of t.reply) is) state cycles
+
+-- where the machine halts, by why it does
+pub ends_halted :
+    {given : Given} {m₀ : List ℕ} {s₀ : State} {budget boundaries : ℕ} {m : List ℕ} {s : State} {w : Watch} (more : ℕ) →
+    Going given m₀ s₀ budget boundaries m s w more →
+    (more ≡ 0 → ⊥) →
+    (h : Halt) →
+    turn_from s (Err h) ≡ turn_at given s m →
+    (r : Answer) →
+    r.reply ≡ halted h →
+    r.machine.state ≡ s →
+    r.cycles ≡ s.clock - s₀.clock →
+    Ends (goes_on boundaries given s₀ m₀ budget) r m
+ends_halted more g some Stopped is = ends_stopped more g some _ is (λ e. absurd (omega (arith, e)))
+ends_halted more g some Reserved is = ends_stopped more g some _ is (λ e. absurd (omega (arith, e)))
 
 pub ends_spent :
     {given : Given} {m₀ : List ℕ} {s₀ : State} {budget boundaries : ℕ} {m : List ℕ} {s : State} {w : Watch} (more : ℕ) →

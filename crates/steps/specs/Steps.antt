@@ -7,8 +7,7 @@ use Rattle.state.specs.declared.State.{State}
 use Rattle.effect.specs.Effect.{acted}
 use Rattle.machine.specs.Names.{number_of}
 use Rattle.refusals.specs.Given.{Given, line_in}
-use Rattle.turn.specs.declared.Turn.{Turn}
-use Rattle.turn.specs.Turn.{turn_of}
+use Rattle.turn.specs.Turn.{Turn, turn_of}
 use Rattle.steps.specs.End.{End, end_is, ends_here, after}
 
 -- what a turn leaves: its effect is acted on, and its store is made

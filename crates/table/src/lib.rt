@@ -17,10 +17,7 @@ impl Record {
     pub fn of(cycle: u32, line: u8) -> Self
         ensures { result ≡ record_is cycle line }
     {
-        Record {
-            cycle: cycle,
-            line: line,
-        }
+        Record { cycle, line }
     }
 }
 
@@ -28,6 +25,7 @@ impl Record {
 const ROOM: usize = Machine::RECORDS + 1;
 
 // The first records of a schedule, as the machine's run takes them.
+// Two arrays with one count: `run::run` takes the cycle numbers and the line bytes as two slices, and there is no heap.
 #[derive(Drop)]
 pub struct Table {
     pub cycles: [u32; ROOM],
@@ -35,6 +33,7 @@ pub struct Table {
     pub count: usize,
 }
 
+#[tactic(auto, unfolding(crate::specs::Records::no_records))]
 pub fn empty() -> Table
     ensures { result ≡ no_records }
 {
@@ -45,27 +44,23 @@ pub fn empty() -> Table
     }
 }
 
-pub fn put(t: Table, r: Record) -> Table
+pub fn put(mut t: Table, r: Record) -> Table
     ensures { result ≡ with_record t r }
 {
-    let i = t.count;
-    let mut y = t;
-    if i < ROOM {
-        y.cycles[i] = r.cycle;
-        y.lines[i] = r.line;
-        y.count = i + 1;
+    let next = t.count;
+    if next < ROOM {
+        t.cycles[next] = r.cycle;
+        t.lines[next] = r.line;
+        t.count = next + 1;
     }
-    y
+    t
 }
 
 // How many records a table holds, by its count: at most as many as it has room for.
 pub fn held(count: usize) -> usize
     ensures { result ≡ min count room }
 {
-    if count < ROOM {
-        return count;
-    }
-    ROOM
+    count.min(ROOM)
 }
 
 // The records of a lent slice, as many as the table has room for.
@@ -73,10 +68,8 @@ pub fn gather(rs: &[Record]) -> Table
     ensures { result ≡ gathered no_records rs.now }
 {
     let mut t = empty();
-    let mut i = 0;
-    while i < rs.len() {
-        t = put(t, rs[i]);
-        i += 1;
+    for r in rs {
+        t = put(t, *r);
     }
     t
 }

@@ -56,13 +56,13 @@ written_in_order t (b ∷ bs) all =
     ∙ rw (one_written t b all, take_again 80 (written t ++ (b ∷ [])) bs, append_assoc)
 
 -- a byte put where there is a place, and where there is none
-pub put_one : (t : Text) (b : ℕ) → t.len < 80 → with_bytes t (b ∷ []) ≡ record { bytes = set t.bytes t.len b; len = t.len + 1 }
+pub put_one : (t : Text) (b : ℕ) → t.len < 80 → Followed t (b ∷ []) (record { bytes = set t.bytes t.len b; len = t.len + 1 })
 unfolding with_bytes
-put_one t b room = rw (lt-ltb t.len 80 room)
+put_one t b room = record { all = rw (lt-ltb t.len 80 room) refl }
 
-pub put_past : (t : Text) (b : ℕ) → 80 ≤ t.len → with_bytes t (b ∷ []) ≡ t
+pub put_past : (t : Text) (b : ℕ) → 80 ≤ t.len → Followed t (b ∷ []) t
 unfolding with_bytes
-put_past t b full = rw (le-ltb t.len 80 full)
+put_past t b full = record { all = rw (le-ltb t.len 80 full) refl }
 
 together : (t : Text) (a b : List ℕ) → with_bytes t (a ++ b) ≡ with_bytes (with_bytes t a) b
 unfolding with_bytes
@@ -86,6 +86,6 @@ all_written {t} {r} {bs} put nothing short =
     rw (put.all, nothing, written_in_order blank bs refl) (take_all 80 bs short)
 
 -- bytes of a list put in its order, and the next one
-pub one_more_lem : {t r s : Text} (more : List ℕ) (i : ℕ) → i < length more → Followed t (take i more) r → Followed r (get_or more i 0 ∷ []) s
+pub one_more : {t r s : Text} (more : List ℕ) (i : ℕ) → i < length more → Followed t (take i more) r → Followed r (get_or more i 0 ∷ []) s
     → Followed t (take (i + 1) more) s
-one_more_lem more i inside first next = rw (add-one i, take-suc more i 0 inside) (and_then first next)
+one_more more i inside first next = rw (add-one i, take-suc more i 0 inside) (and_then first next)

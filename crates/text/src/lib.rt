@@ -9,8 +9,9 @@ use std::io;
 
 const DIGITS: [u8; 16] = *b"0123456789ABCDEF";
 
-// The first `len` places are written.
-#[derive(Clone, Copy)]
+// The first `len` places are written. There is no heap, and `arrayvec::ArrayVec` is not `Copy`, as the texts of a page have to be when
+// they are printed from it.
+#[derive(Clone, Copy, Default)]
 pub struct Text {
     bytes: [u8; 80],
     len: usize,
@@ -38,13 +39,11 @@ fn spelled(t: Text, n: u64, base: u64) -> Text
 pub fn first(bytes: &[u8], n: usize) -> &[u8]
     ensures { result.now ≡ take n bytes.now }
 {
-    if n < bytes.len() {
-        return &bytes[..n];
-    }
-    bytes
+    bytes.get(..n).unwrap_or(bytes)
 }
 
 impl Text {
+    #[tactic(auto, unfolding(crate::specs::Text::blank))]
     pub fn empty() -> Self
         ensures { result ≡ blank }
     {
@@ -54,28 +53,26 @@ impl Text {
         }
     }
 
+    #[tactic(auto, using(crate::proofs::Laws::put_one, crate::proofs::Laws::put_past))]
     pub fn put(mut self, b: u8) -> Self
         ensures { Followed self (b ∷ []) result }
     {
         let at = self.len;
-        if at >= 80 {
-            return self;
+        if at < 80 {
+            self.bytes[at] = b;
+            self.len = at + 1;
         }
-        self.bytes[at] = b;
-        self.len = at + 1;
         self
     }
 
-    pub fn put_all(self, more: &[u8]) -> Self
+    #[tactic(auto, using(crate::proofs::Laws::none_yet))]
+    pub fn put_all(mut self, more: &[u8]) -> Self
         ensures { Followed self more.now result }
     {
-        let mut text = self;
-        let mut i = 0;
-        while i < more.len() {
-            text = text.put(more[i]);
-            i += 1;
+        for byte in more {
+            self = self.put(*byte);
         }
-        text
+        self
     }
 
     pub fn put_decimal(self, n: u64) -> Self

@@ -9,6 +9,19 @@ use Rattle.state.specs.declared.State.{State}
 use Rattle.state.specs.Ccr.{ccr_of, take_ccr}
 use Rattle.state.specs.State.{with_a, with_b, with_d, with_x, with_y, with_sp, with_flags, d_of}
 use Rattle.opcodes.specs.Postbyte.{transfer_reserved}
+use Rattle.transfers.specs.declared.Register.{Register}
+use Rattle.transfers.specs.declared.Register.TheVariants.{A, B, Ccr, Reserved, D, X, Y, Sp}
+
+-- the code of a register that the code names
+abbrev pub register_number : Register → ℕ
+register_number A = 0
+register_number B = 1
+register_number Ccr = 2
+register_number Reserved = 3
+register_number D = 4
+register_number X = 5
+register_number Y = 6
+register_number Sp = 7
 
 -- the byte that a register sends: itself, or its low byte (a code is three bits)
 abbrev pub byte_from : State → ℕ → ℕ

@@ -2,110 +2,112 @@
 #![tactic(auto)]
 
 ghost use Rattle.std.specs.Prelude.{◌≡◌, ◌%◌};
-ghost use Rattle.transfers.specs.Registers.{byte_from, wide_from, word_from, put_byte, put_word, moved, sign_fill, back_fill, tfr_of, exg_of, transferred};
+ghost use Rattle.transfers.specs.Registers.{register_number, byte_from, word_from, moved, sign_fill, back_fill, tfr_of, exg_of, transferred};
 
-use state::{Flags, State};
+use results::Width;
+use state::State;
 
-// The byte that a register sends: itself, or its low byte. The codes are those of the postbyte.
-fn byte_from(s: State, r: u8) -> u8
-    ensures { result ≡ byte_from s r }
-{
-    let ccr = s.flags.ccr();
-    let bytes = [
-        s.a,
-        s.b,
-        ccr,
-        0,
-        s.b,
-        word::low(s.x),
-        word::low(s.y),
-        word::low(s.sp),
-    ];
-    bytes[(r % 8) as usize]
+// The registers in the order of their codes in a postbyte; specs/Registers.antt numbers them so.
+#[derive(Clone, Copy)]
+enum Register {
+    A,
+    B,
+    Ccr,
+    Reserved,
+    D,
+    X,
+    Y,
+    Sp,
 }
 
-// The word that a register of 16 bits sends.
-fn wide_from(s: State, r: u8) -> u16
-    ensures { result ≡ wide_from s r }
-{
-    let words = [0, 0, 0, 0, s.d(), s.x, s.y, s.sp];
-    words[(r % 8) as usize]
+impl Register {
+    // The register that the lowest three bits of a code name.
+    fn named(code: u8) -> Self
+        ensures { register_number result ≡ code % 8 }
+    {
+        match code % 8 {
+            0 => Register::A,
+            1 => Register::B,
+            2 => Register::Ccr,
+            3 => Register::Reserved,
+            4 => Register::D,
+            5 => Register::X,
+            6 => Register::Y,
+            _ => Register::Sp,
+        }
+    }
+
+    // The byte that a register sends: itself, or its low byte.
+    fn byte(self, s: State) -> u8
+        ensures { result ≡ byte_from s (register_number self) }
+    {
+        match self {
+            Register::A => s.a,
+            Register::B | Register::D => s.b,
+            Register::Ccr => s.flags.ccr(),
+            Register::Reserved => 0,
+            Register::X => word::low(s.x),
+            Register::Y => word::low(s.y),
+            Register::Sp => word::low(s.sp),
+        }
+    }
+
+    // A register of 16 bits as it is, one of 8 bits with a high byte that fills it up.
+    fn word(self, s: State, fill: u8) -> u16
+        ensures { result ≡ word_from s fill (register_number self) }
+    {
+        match self {
+            Register::A | Register::B | Register::Ccr | Register::Reserved => {
+                word::word(fill, self.byte(s))
+            }
+            Register::D => s.d(),
+            Register::X => s.x,
+            Register::Y => s.y,
+            Register::Sp => s.sp,
+        }
+    }
+
+    // The high byte that EXG gives back to a register of 16 bits: $00 : A, $FF : B, $FF : CCR.
+    fn back_fill(self) -> u8
+        ensures { result ≡ back_fill (register_number self) }
+    {
+        if matches!(self, Register::A) { 0 } else { 255 }
+    }
 }
 
-// A register of 16 bits as it is, one of 8 bits with a high byte that fills it up.
-fn word_from(s: State, fill: u8, r: u8) -> u16
-    ensures { result ≡ word_from s fill r }
+// What a register sent before the instruction, put into another. The flags before the instruction, too, decide what CCR may take.
+fn move_register(s: State, old: State, to: Register, from: Register, fill: u8) -> State
+    ensures { result ≡ moved s old (register_number to) (register_number from) fill }
 {
-    if r >= 4 {
-        return wide_from(s, r);
+    match to {
+        Register::A => s.with_a(from.byte(old)),
+        Register::B => s.with_b(from.byte(old)),
+        Register::Ccr | Register::Reserved => { s.with_flags(old.flags.take_ccr(from.byte(old))) }
+        Register::D => s.with_d(from.word(old, fill)),
+        Register::X => s.with_x(from.word(old, fill)),
+        Register::Y => s.with_y(from.word(old, fill)),
+        Register::Sp => s.with_sp(from.word(old, fill)),
     }
-    word::word(fill, byte_from(s, r))
-}
-
-// f are the flags before the instruction, whose X decides what CCR may take.
-fn put_byte(f: Flags, s: State, r: u8, v: u8) -> State
-    ensures { result ≡ put_byte f s r v }
-{
-    if r == 0 {
-        return s.with_a(v);
-    }
-    if r == 1 {
-        return s.with_b(v);
-    }
-    s.with_flags(f.take_ccr(v))
-}
-
-fn put_word(s: State, r: u8, v: u16) -> State
-    ensures { result ≡ put_word s r v }
-{
-    if r == 4 {
-        return s.with_d(v);
-    }
-    if r == 5 {
-        return s.with_x(v);
-    }
-    if r == 6 {
-        return s.with_y(v);
-    }
-    s.with_sp(v)
-}
-
-// What a register sent before the instruction, put into another.
-fn move_register(s: State, old: State, to: u8, from: u8, fill: u8) -> State
-    ensures { result ≡ moved s old to from fill }
-{
-    if to >= 4 {
-        return put_word(s, to, word_from(old, fill, from));
-    }
-    let f = old.flags;
-    put_byte(f, s, to, byte_from(old, from))
 }
 
 // The high byte of a byte that is extended with its sign.
 fn sign_fill(b: u8) -> u8
     ensures { result ≡ sign_fill b }
 {
-    if results::top_8(b) { 255 } else { 0 }
+    if b.top_bit() { 255 } else { 0 }
 }
 
-// The high byte that EXG gives back to a register of 16 bits: $00 : A, $FF : B, $FF : CCR.
-fn back_fill(r: u8) -> u8
-    ensures { result ≡ back_fill r }
+fn tfr(s: State, r1: Register, r2: Register) -> State
+    ensures { result ≡ tfr_of s (register_number r1) (register_number r2) }
 {
-    if r == 0 { 0 } else { 255 }
-}
-
-fn tfr(s: State, r1: u8, r2: u8) -> State
-    ensures { result ≡ tfr_of s r1 r2 }
-{
-    move_register(s, s, r2, r1, sign_fill(byte_from(s, r1)))
+    move_register(s, s, r2, r1, sign_fill(r1.byte(s)))
 }
 
 // The second register is written last: of D and a part of it, it is the one that keeps what it takes.
-fn exg(s: State, r1: u8, r2: u8) -> State
-    ensures { result ≡ exg_of s r1 r2 }
+fn exg(s: State, r1: Register, r2: Register) -> State
+    ensures { result ≡ exg_of s (register_number r1) (register_number r2) }
 {
-    let first = move_register(s, s, r1, r2, back_fill(r2));
+    let first = move_register(s, s, r1, r2, r2.back_fill());
     move_register(first, s, r2, r1, 0)
 }
 
@@ -116,8 +118,8 @@ pub fn transfer(s: State, postbyte: u8) -> State
     if opcodes::transfer_reserved(postbyte) {
         return s;
     }
-    let r1 = postbyte / 16 % 8;
-    let r2 = postbyte % 8;
+    let r1 = Register::named(postbyte / 16);
+    let r2 = Register::named(postbyte);
     if postbyte >= 128 {
         return exg(s, r1, r2);
     }

@@ -1,13 +1,14 @@
 -- What comes next at a boundary (docs/MACHINE.md, "Numbered replies": entry, waiting, 4, 5; "Requests").
-use Rattle.std.specs.Prelude.{ℕ, ◌≡◌, true, List, ltb, eqb}
+use Rattle.std.specs.Prelude.{ℕ, ◌≡◌, true, List, ltb, eqb, Result, Ok, Err}
 use Rattle.word.specs.Word.{pick}
 use Rattle.state.specs.declared.State.{State}
 use Rattle.state.specs.Ccr.{set_i}
 use Rattle.state.specs.State.{with_pc}
-use Rattle.opcodes.specs.Kind.{RTI, SWI, TRAP, group_of, SHORT_BRANCHES, LONG_BRANCHES, WITH_A, WITH_B, WITH_WORD, STORES, IN_MEMORY, IN_A, IN_B, REGISTERS, PRODUCTS, STACK, CONTROL, ADDRESSES, CHOICES, MOVES, LOOKUPS}
+use Rattle.opcodes.specs.declared.kind.Kind.{Kind}
+use Rattle.opcodes.specs.Kind.{RTI, SWI, TRAP, same, group_of, SHORT_BRANCHES, LONG_BRANCHES, WITH_A, WITH_B, WITH_WORD, STORES, IN_MEMORY, IN_A, IN_B, REGISTERS, PRODUCTS, STACK, CONTROL, ADDRESSES, CHOICES, MOVES, LOOKUPS}
 use Rattle.decode.specs.declared.Decoded.{Decoded}
-use Rattle.decode.specs.declared.Fetched.{Fetched}
-use Rattle.decode.specs.declared.Fetched.TheVariants.{Stop, Reserved, Instruction}
+use Rattle.decode.specs.declared.Halt.{Halt}
+use Rattle.decode.specs.declared.Halt.TheVariants.{Stopped as Stop, Reserved}
 use Rattle.decode.specs.Decode.{fetched_of, fetched_reply}
 use Rattle.memory.specs.Memory.{byte_at, word_at}
 use Rattle.operand.specs.declared.Place.{Place}
@@ -22,23 +23,25 @@ use Rattle.execute16.specs.Lookups.{looked_up, lookup_effect}
 use Rattle.stack.specs.Stack.{stack_effect}
 use Rattle.frames.specs.Frames.{interrupt_effect}
 use Rattle.flow.specs.Branches.{short_effect, long_effect}
-use Rattle.flow.specs.Control.{control_effect}
+use Rattle.flow.specs.Control.{control_done}
 use Rattle.moves.specs.Moves.{move_effect}
 use Rattle.moves.specs.Addresses.{addressed, address_effect}
 use Rattle.moves.specs.Bits.{bitted, bits_effect}
 use Rattle.machine.specs.declared.Reply.{Reply}
 use Rattle.machine.specs.declared.Reply.TheVariants.{Done, Stopped, ReservedPostbyte}
-use Rattle.turn.specs.declared.Turn.{Turn}
 use Rattle.machine.specs.Names.{number_of, swi_vector, trap_vector, no_line, idle_cost}
 use Rattle.requests.specs.Requests.{allowed_line, entry_effect, wake_effect, rti_effect}
 
 -- What changes the flow and has no operand in memory, with SWI (002, p. 6-196) and TRAP (6-205), which are entries by a vector and set I,
 -- and RTI (6-177). RTI alone asks for the line byte that is in force where it begins.
+unfoldable pub control_by : Kind → State → List ℕ → ℕ → ℕ → ℕ → Effect
+control_by kind s m line at cost =
+    pick (same kind SWI) (interrupt_effect s m swi_vector (set_i s.flags true) cost)
+    (pick (same kind TRAP) (interrupt_effect s m trap_vector (set_i s.flags true) cost)
+    (pick (same kind RTI) (rti_effect s m line cost) (control_done kind s m at cost)))
+
 unfoldable pub controlled : State → List ℕ → ℕ → Decoded → Effect
-controlled s m line d =
-    pick (eqb d.kind SWI) (interrupt_effect s m swi_vector (set_i s.flags true) d.cost)
-    (pick (eqb d.kind TRAP) (interrupt_effect s m trap_vector (set_i s.flags true) d.cost)
-    (pick (eqb d.kind RTI) (rti_effect s m line d.cost) (control_effect s m d)))
+controlled s m line d = control_by d.kind s m line d.at d.cost
 
 -- the groups whose instructions have an operand at a place in memory; the last is BITS
 unfoldable pub with_operand : ℕ → State → List ℕ → Decoded → Effect
@@ -52,7 +55,7 @@ with_operand group s m d =
     (pick (eqb group CHOICES) (choose_effect s m d) (pick (eqb group LOOKUPS) (lookup_effect s m d) (bits_effect s m d))))))))
 
 -- the same by the operand's place, as it is found before the group is chosen
-unfoldable pub placed : ℕ → Place → List ℕ → ℕ → ℕ → Effect
+unfoldable pub placed : ℕ → Place → List ℕ → Kind → ℕ → Effect
 placed group place m kind cost =
     let s = place.state in
     let a = place.address in
@@ -85,6 +88,11 @@ executed s m line d =
     (pick (eqb group CONTROL) (controlled s m line d)
     (pick (eqb group MOVES) (move_effect s m d) (with_operand group s m d)))))))))
 
+-- a turn: what is done, and the reply; nothing is done where the reply is Stopped or ReservedPostbyte
+pub record Turn : Type 0 where
+  pub reply : Reply
+  pub effect : Effect
+
 abbrev pub turn_is : Reply → Effect → Turn
 turn_is reply e = record { reply = reply; effect = e }
 
@@ -93,14 +101,14 @@ abbrev pub ran_of : State → List ℕ → ℕ → Decoded → Turn
 ran_of s m line d = turn_is Done (executed (with_pc s d.next) m line d)
 
 -- what stands at PC: an instruction is done; else nothing is done, and the reply says why
-unfoldable pub instructed : State → List ℕ → ℕ → Fetched → Turn
-instructed s m line Stop = turn_is Stopped (quiet s 0)
-instructed s m line Reserved = turn_is ReservedPostbyte (quiet s 0)
-instructed s m line (Instruction d) = ran_of s m line d
+unfoldable pub instructed : State → List ℕ → ℕ → Result Decoded Halt → Turn
+instructed s m line (Err Stop) = turn_is Stopped (quiet s 0)
+instructed s m line (Err Reserved) = turn_is ReservedPostbyte (quiet s 0)
+instructed s m line (Ok d) = ran_of s m line d
 
 -- Its reply has the number of what was fetched. Proved under the same name in proofs/Laws.antt.
 abbrev pub RepliesAsFetched : Type 0
-RepliesAsFetched = (s : State) (m : List ℕ) (line : ℕ) (f : Fetched) → number_of (instructed s m line f).reply ≡ fetched_reply f
+RepliesAsFetched = (s : State) (m : List ℕ) (line : ℕ) (f : Result Decoded Halt) → number_of (instructed s m line f).reply ≡ fetched_reply f
 
 -- The turn at a boundary: an entry or the end of a wait where a line is allowed, an idle cycle of a machine that waits, and else
 -- what stands at PC.
@@ -109,3 +117,9 @@ turn_of s m line =
     let k = allowed_line s.flags line in
     pick (ltb k no_line) (pick s.standing.waiting (turn_is Done (wake_effect s m k)) (turn_is Done (entry_effect s m k)))
     (pick s.standing.waiting (turn_is Done (quiet s idle_cost)) (instructed s m line (fetched_of m s.pc)))
+
+-- A turn as the code answers it: what is done, or why the machine halts, and then nothing is done.
+abbrev pub turn_from : State → Result Effect Halt → Turn
+turn_from s (Ok e) = turn_is Done e
+turn_from s (Err Stop) = turn_is Stopped (quiet s 0)
+turn_from s (Err Reserved) = turn_is ReservedPostbyte (quiet s 0)

@@ -21,10 +21,9 @@ use Rattle.effect.specs.declared.Effect.{Effect}
 use Rattle.frames.specs.Frames.{interrupt_effect, wait_effect}
 use Rattle.machine.specs.declared.Reply.{Reply}
 use Rattle.machine.specs.declared.Reply.TheVariants.{Done}
-use Rattle.turn.specs.declared.Turn.{Turn}
 use Rattle.machine.specs.Names.{number_of}
 use Rattle.requests.specs.Requests.{entry_effect, wake_effect}
-use Rattle.turn.specs.Turn.{turn_of}
+use Rattle.turn.specs.Turn.{Turn, turn_of}
 use Rattle.walk.specs.Bounds.{EveryStepCosts, EveryStoreIsShort, EveryStoreIsWhole}
 use Rattle.walk.specs.Words.{Words}
 use Rattle.walk.specs.Walk.{Before, Fits, IsBranch, Gives}
@@ -90,7 +89,7 @@ instruction_good {s} {m} bytes there (waits w run) =
 instruction_good bytes there (takes w is) = record { low = omega arith; high = omega arith }
 
 -- a reply that is not 0
-refused : {reply : Reply} → 1 ≤ number_of reply → reply ≡ Done → ⊥
+pub refused : {reply : Reply} → 1 ≤ number_of reply → reply ≡ Done → ⊥
 refused h e = let z = ap number_of e in omega (arith, h, z)
 
 -- a turn that is done has such an effect

@@ -1,5 +1,6 @@
 -- No turn moves the clock, and none reads it. On the definitions alone. Assumes nothing.
 use Prim.Native.Nat.{ℕ}
+use Rattle.std.proofs.Common.{Result, Ok, Err}
 use mathlib.Core.Path.{◌≡◌, refl, ap}
 use mathlib.Core.Bool.{Bool, true, false}
 use mathlib.Core.List.{List}
@@ -7,16 +8,16 @@ use lib.Dec.{ltb}
 use Rattle.word.specs.Word.{pick}
 use Rattle.state.specs.declared.State.{State}
 use Rattle.state.specs.State.{with_pc, with_clock}
-use Rattle.decode.specs.declared.Fetched.{Fetched}
-use Rattle.decode.specs.declared.Fetched.TheVariants.{Stop, Reserved, Instruction}
+use Rattle.decode.specs.declared.Decoded.{Decoded}
+use Rattle.decode.specs.declared.Halt.{Halt}
+use Rattle.decode.specs.declared.Halt.TheVariants.{Stopped, Reserved}
 use Rattle.decode.specs.Decode.{fetched_of}
 use Rattle.effect.specs.declared.Effect.{Effect}
 use Rattle.frames.specs.Frames.{interrupt_effect, wait_effect}
 use Rattle.machine.specs.declared.Reply.TheVariants.{Done}
 use Rattle.machine.specs.Names.{no_line}
-use Rattle.turn.specs.declared.Turn.{Turn}
 use Rattle.requests.specs.Requests.{allowed_line, entry_effect, wake_effect}
-use Rattle.turn.specs.Turn.{turn_is, instructed, turn_of}
+use Rattle.turn.specs.Turn.{Turn, turn_is, instructed, turn_of}
 use Rattle.walk.specs.Walk.{Before, Gives}
 use Rattle.walk.specs.Walk.Gives.{stores, untaken, waits, takes}
 use Rattle.walk.specs.Turns.{Ways}
@@ -56,11 +57,11 @@ either : {c : ℕ} (b : Bool) {t t' r r' : Turn} → Alike c t r → Alike c t' 
 either true first other = first
 either false first other = other
 
-at_pc_lem : (s : State) (m : List ℕ) (line c : ℕ) (f : Fetched) → Alike c (instructed s m line f) (instructed (with_clock s c) m line f)
+at_pc_lem : (s : State) (m : List ℕ) (line c : ℕ) (f : Result Decoded Halt) → Alike c (instructed s m line f) (instructed (with_clock s c) m line f)
 unfolding instructed
-at_pc_lem s m line c Stop = record { same = refl }
-at_pc_lem s m line c Reserved = record { same = refl }
-at_pc_lem s m line c (Instruction d) = record { same = ap (turn_is Done) (no_instruction_reads_the_clock (with_pc s d.next) m line d c) }
+at_pc_lem s m line c (Err Stopped) = record { same = refl }
+at_pc_lem s m line c (Err Reserved) = record { same = refl }
+at_pc_lem s m line c (Ok d) = record { same = ap (turn_is Done) (no_instruction_reads_the_clock (with_pc s d.next) m line d c) }
 
 of_every_turn : (s : State) (m : List ℕ) (line c : ℕ) → Alike c (turn_of s m line) (turn_of (with_clock s c) m line)
 unfolding turn_of wake_effect entry_effect interrupt_effect

@@ -16,7 +16,8 @@ use Rattle.word.proofs.Laws.{both}
 use Rattle.codes.proofs.Laws.{andcc_keeps_x, orcc_keeps_x}
 use Rattle.quotient.specs.Divide.{idiv_of, fdiv_of, ediv_of, idivs_of, edivs_of}
 use Rattle.product.proofs.Laws.{below, signed_below}
-use Rattle.opcodes.specs.Kind.{SUBD, ADDD, CPD, CPY, CPX, CPS, LDD, LDY, LDX, STAA, STAB, STD, STY, STX, MAXA, MINA, EMAXD, EMIND, MAXM, MINM, EMAXM}
+use Rattle.opcodes.specs.declared.kind.Kind.{Kind}
+use Rattle.opcodes.specs.Kind.{kind_number, same, SUBD, ADDD, CPD, CPY, CPX, CPS, LDD, LDY, LDX, STAA, STAB, STD, STY, STX, MAXA, MINA, EMAXD, EMIND, MAXM, MINM, EMAXM}
 use Rattle.opcodes.specs.Kind.{LSRD, ASLD, INX, INY, DEX, DEY, ABA, CBA, DAA, TAB, TBA, ANDCC, ORCC, TFR/EXG}
 use Rattle.opcodes.specs.Kind.{MUL, EMUL, EMULS, EMACS, EDIV, EDIVS, IDIV, IDIVS, TBL}
 use Rattle.opcodes.specs.Postbyte.{transfer_reserved}
@@ -36,31 +37,31 @@ use Rattle.walk.proofs.Settings.{quietly, with_byte_lem, with_word, with_words, 
 use Rattle.walk.proofs.Places.{place}
 
 module _ {b : Before} {c : ℕ} {s : State} (w : Leads b c s (with_clock s c)) where
-  words_done : (kind : ℕ) {v : ℕ} → (Fits b → v < 65536) → Leading b c s (λ z. worded kind z v)
+  words_done : (kind : Kind) {v : ℕ} → (Fits b → v < 65536) → Leading b c s (λ z. worded kind z v)
   unfolding worded
   words_done kind h =
-      if eqb kind SUBD then set_codes (set_d w (λ k. omega arith)) refl else
-      if eqb kind ADDD then set_codes (set_d w (λ k. omega arith)) refl else
-      if eqb kind CPD then set_codes w refl else
-      if eqb kind CPY then set_codes w refl else
-      if eqb kind CPX then set_codes w refl else
-      if eqb kind CPS then set_codes w refl else
-      if eqb kind LDD then set_codes (set_d w h) refl else
-      if eqb kind LDY then set_codes (set_y w h) refl else
-      if eqb kind LDX then set_codes (set_x_lem w h) refl else
+      if same kind SUBD then set_codes (set_d w (λ k. omega arith)) refl else
+      if same kind ADDD then set_codes (set_d w (λ k. omega arith)) refl else
+      if same kind CPD then set_codes w refl else
+      if same kind CPY then set_codes w refl else
+      if same kind CPX then set_codes w refl else
+      if same kind CPS then set_codes w refl else
+      if same kind LDD then set_codes (set_d w h) refl else
+      if same kind LDY then set_codes (set_y w h) refl else
+      if same kind LDX then set_codes (set_x_lem w h) refl else
       set_codes (set_sp w h) refl
 
-  storing : (kind : ℕ) {a : ℕ} → (Fits b → a < 65536) → Yielding b c s (λ z. stored kind z b.decoded.cost a)
+  storing : (kind : Kind) {a : ℕ} → (Fits b → a < 65536) → Yielding b c s (λ z. stored kind z b.decoded.cost a)
   unfolding stored
   storing kind h =
-      if eqb kind STAA does with_byte_lem (set_codes w refl) h (λ k. (fit w k).a) else
-      if eqb kind STAB does with_byte_lem (set_codes w refl) h (λ k. (fit w k).b) else
-      if eqb kind STD does with_word (set_codes w refl) h (d_fit w) else
-      if eqb kind STY does with_word (set_codes w refl) h (λ k. (fit w k).y) else
-      if eqb kind STX does with_word (set_codes w refl) h (λ k. (fit w k).x) else
+      if same kind STAA does with_byte_lem (set_codes w refl) h (λ k. (fit w k).a) else
+      if same kind STAB does with_byte_lem (set_codes w refl) h (λ k. (fit w k).b) else
+      if same kind STD does with_word (set_codes w refl) h (d_fit w) else
+      if same kind STY does with_word (set_codes w refl) h (λ k. (fit w k).y) else
+      if same kind STX does with_word (set_codes w refl) h (λ k. (fit w k).x) else
       with_word (set_codes w refl) h (λ k. (fit w k).sp)
 
-  choosing : (kind : ℕ) {a : ℕ} → (Fits b → a < 65536) → Yielding b c s (λ z. chosen kind z b.memory b.decoded.cost a)
+  choosing : (kind : Kind) {a : ℕ} → (Fits b → a < 65536) → Yielding b c s (λ z. chosen kind z b.memory b.decoded.cost a)
   unfolding chosen
   choosing kind {a} h =
       let byte = byte_at b.memory a in
@@ -69,25 +70,25 @@ module _ {b : Before} {c : ℕ} {s : State} (w : Leads b c s (with_clock s c)) w
       let smaller : Fits b → min s.a byte < 256 = λ k. min_below s.a byte (fit w k).a in
       let larger-word : Fits b → max (d_of s) word < 65536 = λ k. max_below (d_fit w k) (word_in k a) in
       let smaller-word : Fits b → min (d_of s) word < 65536 = λ k. min_below (d_of s) word (d_fit w k) in
-      if eqb kind MAXA does quietly (set_codes (set_a w larger) refl) else
-      if eqb kind MINA does quietly (set_codes (set_a w smaller) refl) else
-      if eqb kind EMAXD does quietly (set_codes (set_d w larger-word) refl) else
-      if eqb kind EMIND does quietly (set_codes (set_d w smaller-word) refl) else
-      if eqb kind MAXM does with_byte_lem (set_codes w refl) h larger else
-      if eqb kind MINM does with_byte_lem (set_codes w refl) h smaller else
-      if eqb kind EMAXM does with_word (set_codes w refl) h larger-word else
+      if same kind MAXA does quietly (set_codes (set_a w larger) refl) else
+      if same kind MINA does quietly (set_codes (set_a w smaller) refl) else
+      if same kind EMAXD does quietly (set_codes (set_d w larger-word) refl) else
+      if same kind EMIND does quietly (set_codes (set_d w smaller-word) refl) else
+      if same kind MAXM does with_byte_lem (set_codes w refl) h larger else
+      if same kind MINM does with_byte_lem (set_codes w refl) h smaller else
+      if same kind EMAXM does with_word (set_codes w refl) h larger-word else
       with_word (set_codes w refl) h smaller-word
 
-  first_registers_lem : (kind : ℕ) → Leading b c s (λ z. first_registers kind z)
+  first_registers_lem : (kind : Kind) → Leading b c s (λ z. first_registers kind z)
   unfolding first_registers
   first_registers_lem kind =
-      if eqb kind LSRD then set_codes (set_d w (λ k. right_below 15 (d_of s) false (d_fit w k))) refl else
-      if eqb kind ASLD then set_codes (set_d w (λ k. omega arith)) refl else
-      if eqb kind INX then set_codes (set_x_lem w (λ k. omega arith)) refl else
-      if eqb kind INY then set_codes (set_y w (λ k. omega arith)) refl else
-      if eqb kind DEX then set_codes (set_x_lem w (λ k. omega arith)) refl else
-      if eqb kind DEY then set_codes (set_y w (λ k. omega arith)) refl else
-      if eqb kind ABA then set_codes (set_a w (λ k. omega arith)) refl else
+      if same kind LSRD then set_codes (set_d w (λ k. right_below 15 (d_of s) false (d_fit w k))) refl else
+      if same kind ASLD then set_codes (set_d w (λ k. omega arith)) refl else
+      if same kind INX then set_codes (set_x_lem w (λ k. omega arith)) refl else
+      if same kind INY then set_codes (set_y w (λ k. omega arith)) refl else
+      if same kind DEX then set_codes (set_x_lem w (λ k. omega arith)) refl else
+      if same kind DEY then set_codes (set_y w (λ k. omega arith)) refl else
+      if same kind ABA then set_codes (set_a w (λ k. omega arith)) refl else
       set_codes (set_a w (λ k. omega arith)) refl
 
 -- what a register of the state `old` sends, put into a register of the state s; the codes come from `old`
@@ -115,23 +116,23 @@ module _ {b : Before} {c : ℕ} {s : State} (w : Leads b c s (with_clock s c)) w
       if leb 128 p then move_between (move_between w w r1 r2 (back_fill r2) back) w r2 r1 0 (omega arith) else
       move_between w w r2 r1 (sign_fill (byte_from s r1)) sign
 
-  second_registers_lem : (kind n : ℕ) → Leading b c s (λ z. second_registers kind z n)
+  second_registers_lem : (kind : Kind) (n : ℕ) → Leading b c s (λ z. second_registers kind z n)
   unfolding second_registers
   second_registers_lem kind n =
-      if eqb kind CBA then set_codes w refl else
-      if eqb kind DAA then set_codes (set_a w (λ k. omega arith)) refl else
-      if eqb kind TAB then set_codes (set_b w (λ k. (fit w k).a)) refl else
-      if eqb kind TBA then set_codes (set_a w (λ k. (fit w k).b)) refl else
-      if eqb kind ANDCC then take_codes w (andcc_keeps_x s.flags n) else
-      if eqb kind ORCC then take_codes w (orcc_keeps_x s.flags n) else
-      if eqb kind TFR/EXG then transferring n else
+      if same kind CBA then set_codes w refl else
+      if same kind DAA then set_codes (set_a w (λ k. omega arith)) refl else
+      if same kind TAB then set_codes (set_b w (λ k. (fit w k).a)) refl else
+      if same kind TBA then set_codes (set_a w (λ k. (fit w k).b)) refl else
+      if same kind ANDCC then take_codes w (andcc_keeps_x s.flags n) else
+      if same kind ORCC then take_codes w (orcc_keeps_x s.flags n) else
+      if same kind TFR/EXG then transferring n else
       w
 
   -- a number of 32 bits in Y : D
   set_yd : {v : ℕ} → (Fits b → v < 4294967296) → Leading b c s (λ z. with_d (with_y z (v / 65536)) (v % 65536))
   set_yd h = set_d (set_y w (λ k. omega (arith, h k))) (λ k. omega arith)
 
-  multiplying : (kind : ℕ) → Leading b c s (λ z. multiplied kind z)
+  multiplying : (kind : Kind) → Leading b c s (λ z. multiplied kind z)
   unfolding multiplied
   multiplying kind =
       let f = s.flags in
@@ -143,20 +144,20 @@ module _ {b : Before} {c : ℕ} {s : State} (w : Leads b c s (with_clock s c)) w
       let ediv : Fits b → AreWords (ediv_of f y d x) = λ k. ediv_words f y d x (fit w k).y (d_fit w k) (fit w k).x in
       let idivs : Fits b → AreWords (idivs_of f d x) = λ k. idivs_words f d x (d_fit w k) (fit w k).x in
       let edivs : Fits b → AreWords (edivs_of f y d x) = λ k. edivs_words f y d x (fit w k).y (d_fit w k) (fit w k).x in
-      if eqb kind MUL then set_codes (set_d w (λ k. below 8 (fit w k).a (fit w k).b)) refl else
-      if eqb kind EMUL then set_codes (set_yd (λ k. below 16 (d_fit w k) (fit w k).y)) refl else
-      if eqb kind EMULS then set_codes (set_yd (λ k. signed_below d y (d_fit w k) (fit w k).y)) refl else
-      if eqb kind EDIV then set_codes (set_d (set_y w (λ k. (ediv k).quotient)) (λ k. (ediv k).remainder)) (ediv_x f y d x) else
-      if eqb kind EDIVS then set_codes (set_d (set_y w (λ k. (edivs k).quotient)) (λ k. (edivs k).remainder)) (edivs_x f y d x) else
-      if eqb kind IDIV then set_codes (set_d (set_x_lem w (λ k. (idiv k).quotient)) (λ k. (idiv k).remainder)) refl else
-      if eqb kind IDIVS then set_codes (set_d (set_x_lem w (λ k. (idivs k).quotient)) (λ k. (idivs k).remainder)) (idivs_x f d x) else
+      if same kind MUL then set_codes (set_d w (λ k. below 8 (fit w k).a (fit w k).b)) refl else
+      if same kind EMUL then set_codes (set_yd (λ k. below 16 (d_fit w k) (fit w k).y)) refl else
+      if same kind EMULS then set_codes (set_yd (λ k. signed_below d y (d_fit w k) (fit w k).y)) refl else
+      if same kind EDIV then set_codes (set_d (set_y w (λ k. (ediv k).quotient)) (λ k. (ediv k).remainder)) (ediv_x f y d x) else
+      if same kind EDIVS then set_codes (set_d (set_y w (λ k. (edivs k).quotient)) (λ k. (edivs k).remainder)) (edivs_x f y d x) else
+      if same kind IDIV then set_codes (set_d (set_x_lem w (λ k. (idiv k).quotient)) (λ k. (idiv k).remainder)) refl else
+      if same kind IDIVS then set_codes (set_d (set_x_lem w (λ k. (idivs k).quotient)) (λ k. (idivs k).remainder)) (idivs_x f d x) else
       set_codes (set_d (set_x_lem w (λ k. (fdiv k).quotient)) (λ k. (fdiv k).remainder)) refl
 
-  looking_up : (kind a : ℕ) → Leading b c s (λ z. looked_up kind z b.memory a)
+  looking_up : (kind : Kind) (a : ℕ) → Leading b c s (λ z. looked_up kind z b.memory a)
   unfolding looked_up
   looking_up kind a =
       let byte : Fits b → s.b < 256 = λ k. (fit w k).b in
-      if eqb kind TBL then set_codes (set_a w (λ k. lookup_fits s.b _ _ (byte k) (byte_in_lem k a) (byte_in_lem k (plus_w a 1)))) refl else
+      if same kind TBL then set_codes (set_a w (λ k. lookup_fits s.b _ _ (byte k) (byte_in_lem k a) (byte_in_lem k (plus_w a 1)))) refl else
       set_codes (set_d w (λ k. lookup_fits s.b _ _ (byte k) (word_in k a) (word_in k (plus_w a 2)))) refl
 
   accumulating : {a : ℕ} → (Fits b → a < 65536) → Yielding b c s (λ z. accumulate_effect z b.memory b.decoded.cost a)
@@ -188,12 +189,12 @@ module _ (s : State) (m : List ℕ) (line : ℕ) (d : Decoded) (c : ℕ) where
   pub registers : Yielding b c s (λ z. registers_effect z m d)
   unfolding registers_effect registered
   registers =
-      quietly (if ltb d.kind CBA then first_registers_lem start d.kind else second_registers_lem start d.kind _)
+      quietly (if ltb (kind_number d.kind) (kind_number CBA) then first_registers_lem start d.kind else second_registers_lem start d.kind _)
 
   pub product : Yielding b c s (λ z. product_effect z m d)
   unfolding product_effect
   product =
-      if eqb d.kind EMACS does accumulating start (λ k. word_in k d.at) else
+      if same d.kind EMACS does accumulating start (λ k. word_in k d.at) else
       quietly (multiplying start d.kind)
 
   pub look_up : Yielding b c s (λ z. lookup_effect z m d)

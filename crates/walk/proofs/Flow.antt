@@ -7,7 +7,7 @@ use mathlib.Core.Bool.{Bool, true, false}
 use mathlib.Core.List.{List}
 use lib.Bits.{and_lt, or_lt}
 use lib.Dec.{ltb, eqb}
-use Rattle.word.specs.Word.{minus_w}
+use Rattle.word.specs.Word.{plus_w, minus_w}
 use Rattle.memory.specs.Memory.{byte_at, word_at}
 use Rattle.state.specs.declared.Flags.{Flags}
 use Rattle.state.specs.declared.State.{State}
@@ -17,14 +17,15 @@ use Rattle.logic.specs.Logic.{all_clear, all_set}
 use Rattle.codes.specs.Conditions.{condition_of}
 use Rattle.codes.specs.Loops.{count_byte, count_word}
 use Rattle.state.proofs.Laws.{ccr_below}
-use Rattle.opcodes.specs.Kind.{member_of, PULX, PULY, PULA, PULB, PSHX, PSHY, PSHA, PSHB, PULC, PSHC, PULD}
+use Rattle.opcodes.specs.declared.kind.Kind.{Kind}
+use Rattle.opcodes.specs.Kind.{member_of, same, PULX, PULY, PULA, PULB, PSHX, PSHY, PSHA, PSHB, PULC, PSHC, PULD}
 use Rattle.opcodes.specs.Kind.{BSR, RTS, RTI, WAI, LEAY, LEAX, LEAS, JMP, BSET, BCLR, BRSET, MOVB}
 use Rattle.decode.specs.declared.Decoded.{Decoded}
 use Rattle.stack.specs.Stack.{byte_pushed, word_pushed, pulled, stacked, stack_effect}
 use Rattle.stack.specs.Stack.{subroutine_effect, return_effect}
 use Rattle.frames.specs.Frames.{interrupt_effect, pulled_frame}
-use Rattle.flow.specs.Branches.{branched, short_effect, long_effect, looped, loop_done, loop_effect}
-use Rattle.flow.specs.Control.{control_effect}
+use Rattle.flow.specs.Branches.{branched, short_effect, long_effect, looped, loop_done}
+use Rattle.flow.specs.Control.{control_done}
 use Rattle.machine.specs.Names.{no_line}
 use Rattle.requests.specs.Requests.{allowed_line, rti_effect}
 use Rattle.moves.specs.Moves.{byte_move_effect, word_move_effect, move_effect}
@@ -49,22 +50,22 @@ module _ {b : Before} {c : ℕ} {s : State} (w : Leads b c s (with_clock s c)) w
   pull n = quietly (set_sp w (λ k. omega arith))
 
 module _ {b : Before} {c : ℕ} {s : State} (w : Leads b c s (with_clock s c)) where
-  stacking : (kind : ℕ) → Yielding b c s (λ z. stacked kind z b.memory b.decoded.cost)
+  stacking : (kind : Kind) → Yielding b c s (λ z. stacked kind z b.memory b.decoded.cost)
   unfolding stacked
   stacking kind =
       let byte : Fits b → byte_at b.memory s.sp < 256 = λ k. byte_in_lem k s.sp in
       let word : Fits b → word_at b.memory s.sp < 65536 = λ k. word_in k s.sp in
-      if eqb kind PULX does pull (set_x_lem w word) 2 else
-      if eqb kind PULY does pull (set_y w word) 2 else
-      if eqb kind PULA does pull (set_a w byte) 1 else
-      if eqb kind PULB does pull (set_b w byte) 1 else
-      if eqb kind PSHX does push_word w (λ k. (fit w k).x) else
-      if eqb kind PSHY does push_word w (λ k. (fit w k).y) else
-      if eqb kind PSHA does push_byte w (λ k. (fit w k).a) else
-      if eqb kind PSHB does push_byte w (λ k. (fit w k).b) else
-      if eqb kind PULC does pull (take_codes w (never_sets_x s.flags (byte_at b.memory s.sp))) 1 else
-      if eqb kind PSHC does push_byte w (λ k. ccr_below s.flags) else
-      if eqb kind PULD does pull (set_d w word) 2 else
+      if same kind PULX does pull (set_x_lem w word) 2 else
+      if same kind PULY does pull (set_y w word) 2 else
+      if same kind PULA does pull (set_a w byte) 1 else
+      if same kind PULB does pull (set_b w byte) 1 else
+      if same kind PSHX does push_word w (λ k. (fit w k).x) else
+      if same kind PSHY does push_word w (λ k. (fit w k).y) else
+      if same kind PSHA does push_byte w (λ k. (fit w k).a) else
+      if same kind PSHB does push_byte w (λ k. (fit w k).b) else
+      if same kind PULC does pull (take_codes w (never_sets_x s.flags (byte_at b.memory s.sp))) 1 else
+      if same kind PSHC does push_byte w (λ k. ccr_below s.flags) else
+      if same kind PULD does pull (set_d w word) 2 else
       push_word w (d_fit w)
 
   -- a branch that costs the same whether it is taken or not
@@ -110,13 +111,13 @@ module _ {b : Before} {c : ℕ} {s : State} (w : Leads b c s (with_clock s c)) (
 
 -- what takes the operand's address alone
 module _ {b : Before} {c : ℕ} {s : State} (w : Leads b c s (with_clock s c)) where
-  addressing : (kind : ℕ) {a : ℕ} → (Fits b → a < 65536) → Yielding b c s (λ z. addressed z kind a b.decoded.cost)
+  addressing : (kind : Kind) {a : ℕ} → (Fits b → a < 65536) → Yielding b c s (λ z. addressed z kind a b.decoded.cost)
   unfolding addressed
   addressing kind h =
-      if eqb kind LEAY does quietly (set_y w h) else
-      if eqb kind LEAX does quietly (set_x_lem w h) else
-      if eqb kind LEAS does quietly (set_sp w h) else
-      if eqb kind JMP does quietly (set_pc w h) else
+      if same kind LEAY does quietly (set_y w h) else
+      if same kind LEAX does quietly (set_x_lem w h) else
+      if same kind LEAS does quietly (set_sp w h) else
+      if same kind JMP does quietly (set_pc w h) else
       subroutine w h
 
   changing_bits :
@@ -126,16 +127,16 @@ module _ {b : Before} {c : ℕ} {s : State} (w : Leads b c s (with_clock s c)) w
   changing_bits true mask v m h g = with_byte_lem (set_codes w refl) g (λ k. or_lt 8 _ _ (h k) (m k))
   changing_bits false mask v m h g = with_byte_lem (set_codes w refl) g (λ k. and_lt 8 _ _ (h k) (omega arith))
 
-  on_bits : (kind : ℕ) {a : ℕ} → (Fits b → a < 65536) → Yielding b c s (λ z. bitted z b.memory kind a b.decoded.cost)
+  on_bits : (kind : Kind) {a : ℕ} → (Fits b → a < 65536) → Yielding b c s (λ z. bitted z b.memory kind a b.decoded.cost)
   unfolding bitted
   on_bits kind {a} h =
       let m = b.memory in
       let v = byte_at m a in
       let last = byte_at m (minus_w s.pc 1) in
       let mask = byte_at m (minus_w s.pc 2) in
-      if eqb kind BSET does changing_bits true last v (λ k. byte_in_lem k _) (λ k. byte_in_lem k _) h else
-      if eqb kind BCLR does changing_bits false last v (λ k. byte_in_lem k _) (λ k. byte_in_lem k _) h else
-      if eqb kind BRSET does branch w (all_set v mask) _ else
+      if same kind BSET does changing_bits true last v (λ k. byte_in_lem k _) (λ k. byte_in_lem k _) h else
+      if same kind BCLR does changing_bits false last v (λ k. byte_in_lem k _) (λ k. byte_in_lem k _) h else
+      if same kind BRSET does branch w (all_set v mask) _ else
       branch w (all_clear v mask) _
 
 module _ (s : State) (m : List ℕ) (line : ℕ) (d : Decoded) (c : ℕ) where
@@ -156,16 +157,16 @@ module _ (s : State) (m : List ℕ) (line : ℕ) (d : Decoded) (c : ℕ) where
   long_branch is =
       if condition_of s.flags (member_of d.kind) does quietly (set_pc start (λ k. omega arith)) else staying start is
 
-  loop : Yielding b c s (λ z. loop_effect z m d)
-  unfolding loop_effect loop_done
+  loop : Yielding b c s (λ z. loop_done z (byte_at m d.at) (byte_at m (plus_w d.at 1)) d.cost)
+  unfolding loop_done
   loop = looping start (byte_at m d.at / 32) _ (byte_at m d.at % 8)
 
-  pub control : Yielding b c s (λ z. control_effect z m d)
-  unfolding control_effect
+  pub control : Yielding b c s (λ z. control_done d.kind z m d.at d.cost)
+  unfolding control_done
   control =
-      if eqb d.kind BSR does subroutine start (λ k. omega arith) else
-      if eqb d.kind RTS does return start else
-      if eqb d.kind WAI does waiting start else
+      if same d.kind BSR does subroutine start (λ k. omega arith) else
+      if same d.kind RTS does return start else
+      if same d.kind WAI does waiting start else
       loop
 
   pub rti : d.kind ≡ RTI → Yielding b c s (λ z. rti_effect z m line d.cost)
@@ -190,15 +191,15 @@ module _ (s : State) (m : List ℕ) (line : ℕ) (d : Decoded) (c : ℕ) where
   move_byte : Yielding b c s (λ z. byte_move_effect z m d)
   unfolding byte_move_effect
   move_byte =
-      let p = way s m line d c false in
+      let p = way s m line d c 1 in
       rw p.same (with_byte_lem p.state p.target (λ k. byte_in_lem k _))
 
   move_word : Yielding b c s (λ z. word_move_effect z m d)
   unfolding word_move_effect
   move_word =
-      let p = way s m line d c true in
+      let p = way s m line d c 2 in
       rw p.same (with_word p.state p.target (λ k. word_in k _))
 
   pub move : Yielding b c s (λ z. move_effect z m d)
   unfolding move_effect
-  move = if eqb d.kind MOVB does move_byte else move_word
+  move = if same d.kind MOVB does move_byte else move_word

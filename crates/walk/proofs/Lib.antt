@@ -1,3 +1,4 @@
+pub mod Control
 pub mod Results
 pub mod Codes
 pub mod Registers

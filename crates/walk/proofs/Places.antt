@@ -10,7 +10,8 @@ use Rattle.word.specs.Word.{pick, bit_of, plus_w, minus_w}
 use Rattle.memory.specs.Memory.{byte_at}
 use Rattle.state.specs.declared.State.{State}
 use Rattle.state.specs.State.{with_clock}
-use Rattle.opcodes.specs.Mode.{IM, DI, EX, IM_EX, EX_EX, IM_ID, EX_ID, ID_EX}
+use Rattle.opcodes.specs.declared.mode.Mode.{Mode}
+use Rattle.opcodes.specs.Mode.{mode_number, IM, DI, EX, IM_EX, EX_EX, IM_ID, EX_ID, ID_EX}
 use Rattle.operand.specs.declared.Place.{Place}
 use Rattle.routes.specs.declared.Route.{Route}
 use Rattle.operand.specs.Indexed.{place_is, with_base, stepped_place, constant_place, accumulator_place, indexed_place}
@@ -84,29 +85,29 @@ module _ {b : Before} {c : ℕ} where
         placed w (λ k. omega arith)
 
     operand :
-        (mode : ℕ) {at : ℕ} → (Fits b → at < 65536) →
+        (mode : Mode) {at : ℕ} → (Fits b → at < 65536) →
         Placed b c (operand_place s b.memory mode at) (operand_place (with_clock s c) b.memory mode at)
     unfolding operand_place
     operand mode {at} h =
-        if eqb mode IM lies placed w h else
-        if eqb mode DI lies placed w (λ k. omega (arith, byte_in_lem k at)) else
-        if eqb mode EX lies placed w (λ k. word_in k at) else
+        if eqb (mode_number mode) (mode_number IM) lies placed w h else
+        if eqb (mode_number mode) (mode_number DI) lies placed w (λ k. omega (arith, byte_in_lem k at)) else
+        if eqb (mode_number mode) (mode_number EX) lies placed w (λ k. word_in k at) else
         indexed at s.pc
 
   module _ {s : State} (w : Leads b c s (with_clock s c)) (at : ℕ) where
-    route : (mode : ℕ) (wide : Bool) → Routed b c (route_of s b.memory mode at wide) (route_of (with_clock s c) b.memory mode at wide)
+    route : (mode : Mode) (size : ℕ) → Routed b c (route_of s b.memory mode at size) (route_of (with_clock s c) b.memory mode at size)
     unfolding route_of immediate_to_indexed extended_to_indexed indexed_to_extended indexed_to_indexed
-    route mode wide =
-        let im-id = indexed w at (plus_w s.pc (pick wide 2 1)) in
+    route mode size =
+        let im-id = indexed w at (plus_w s.pc size) in
         let ex-id = indexed w at (plus_w s.pc 2) in
         let id-ex = indexed w at (minus_w s.pc 2) in
         let from = indexed w at (minus_w s.pc 1) in
         let to = indexed from.state (plus_w at 1) (plus_w s.pc 1) in
-        if eqb mode IM_EX goes routed w (λ k. word_in k _) else
-        if eqb mode EX_EX goes routed w (λ k. word_in k _) else
-        if eqb mode IM_ID goes rw im-id.same (routed im-id.state im-id.address) else
-        if eqb mode EX_ID goes rw ex-id.same (routed ex-id.state ex-id.address) else
-        if eqb mode ID_EX goes rw id-ex.same (routed id-ex.state (λ k. word_in k _)) else
+        if eqb (mode_number mode) (mode_number IM_EX) goes routed w (λ k. word_in k _) else
+        if eqb (mode_number mode) (mode_number EX_EX) goes routed w (λ k. word_in k _) else
+        if eqb (mode_number mode) (mode_number IM_ID) goes rw im-id.same (routed im-id.state im-id.address) else
+        if eqb (mode_number mode) (mode_number EX_ID) goes rw ex-id.same (routed ex-id.state ex-id.address) else
+        if eqb (mode_number mode) (mode_number ID_EX) goes rw id-ex.same (routed id-ex.state (λ k. word_in k _)) else
         rw (from.same, to.same) (routed to.state to.address)
 
 -- where the operand of an instruction lies, and where a move goes
@@ -116,6 +117,6 @@ pub place :
 place s m line d c = operand start d.mode (λ k. k.at)
 
 pub way :
-    (s : State) (m : List ℕ) (line : ℕ) (d : Decoded) (c : ℕ) (wide : Bool) →
-    Routed (before s m line d) c (route_of s m d.mode d.at wide) (route_of (with_clock s c) m d.mode d.at wide)
-way s m line d c wide = route start d.at d.mode wide
+    (s : State) (m : List ℕ) (line : ℕ) (d : Decoded) (c size : ℕ) →
+    Routed (before s m line d) c (route_of s m d.mode d.at size) (route_of (with_clock s c) m d.mode d.at size)
+way s m line d c size = route start d.at d.mode size

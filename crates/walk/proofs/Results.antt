@@ -12,8 +12,7 @@ use Rattle.word.specs.Word.{pick, bit_of}
 use Rattle.word.proofs.Laws.{both}
 use Rattle.state.specs.declared.Flags.{Flags}
 use Rattle.opcodes.specs.Kind.{member_of, SUBA, CMPA, SBCA, ANDA, BITA, LDAA, EORA, ADCA, ORAA, NEG, COM, INC, DEC, LSR, ROL, ROR, ASR, ASL, CLR}
-use Rattle.results.specs.declared.Byte.{Byte}
-use Rattle.results.specs.Results.{exclusive_or}
+use Rattle.results.specs.Results.{Byte, exclusive_or}
 use Rattle.shift.specs.Shift.{right_of}
 use Rattle.decimal.specs.Lookup.{lookup_of}
 use Rattle.decimal.proofs.Laws.{lookup_below}
@@ -23,10 +22,6 @@ use Rattle.quotient.specs.Divide.{none_set, magnitude_of, signed_of, outside, by
 use Rattle.quotient.specs.Divide.{idiv_of, fdiv_of, ediv_of, signed_division, idivs_of, edivs_of}
 use Rattle.quotient.proofs.Laws.{divisor_zero, fraction_fits, magnitude_some, magnitude_most, inside_fits, remainder_fits}
 use Rattle.execute8.specs.Bytes.{accumulated, changed}
-
--- a result of 8 bits is a byte
-abbrev pub IsByte : Byte → Type 0
-IsByte r = r.value < 256
 
 -- the larger or smaller of two numbers below a bound is below it
 pub max_below : {n x y : ℕ} → x < n → y < n → max x y < n
@@ -46,34 +41,41 @@ counted_below k kind n l =
     both (λ (c : ℕ). c < 2 ^ suc k) (ltb kind 2) _ _ (mod-lt _ (pow_pos (suc k)))
     (both (λ (c : ℕ). c < 2 ^ suc k) (ltb kind 4) _ _ l (mod-lt _ (pow_pos (suc k))))
 
-pub accumulated_byte : (member : ℕ) (f : Flags) (x m : ℕ) → x < 256 → m < 256 → IsByte (accumulated member f x m)
-unfolding accumulated
-accumulated_byte member f x m k l =
-    both IsByte (eqb member (member_of SUBA)) _ _ (omega arith)
-    (both IsByte (eqb member (member_of CMPA)) _ _ k
-    (both IsByte (eqb member (member_of SBCA)) _ _ (omega arith)
-    (both IsByte (eqb member (member_of ANDA)) _ _ (and_lt 8 x m k l)
-    (both IsByte (eqb member (member_of BITA)) _ _ k
-    (both IsByte (eqb member (member_of LDAA)) _ _ l
-    (both IsByte (eqb member (member_of EORA)) _ _ (xor_lt 8 x m k l)
-    (both IsByte (eqb member (member_of ADCA)) _ _ (omega arith)
-    (both IsByte (eqb member (member_of ORAA)) _ _ (or_lt 8 x m k l)
-    (omega arith)))))))))
+-- What an operation of 8 bits leaves: a byte, where it is given bytes, and X as it was.
+pub record Leaves (f : Flags) (Bytes : Type 0) (r : Byte) : Type 0 where
+  pub byte : Bytes → r.value < 256
+  pub x : r.flags.x ≡ f.x
 
-pub changed_byte : (member : ℕ) (f : Flags) (m : ℕ) → m < 256 → IsByte (changed member f m)
+pub accumulated_leaves : (member : ℕ) (f : Flags) (x m : ℕ) → Leaves f ((x < 256) × (m < 256)) (accumulated member f x m)
+unfolding accumulated
+accumulated_leaves member f x m =
+    let R : Byte → Type 0 = Leaves f ((x < 256) × (m < 256)) in
+    both R (eqb member (member_of SUBA)) _ _ (record { byte = λ k. omega arith; x = refl })
+    (both R (eqb member (member_of CMPA)) _ _ (record { byte = λ k. k.0; x = refl })
+    (both R (eqb member (member_of SBCA)) _ _ (record { byte = λ k. omega arith; x = refl })
+    (both R (eqb member (member_of ANDA)) _ _ (record { byte = λ k. and_lt 8 x m k.0 k.1; x = refl })
+    (both R (eqb member (member_of BITA)) _ _ (record { byte = λ k. k.0; x = refl })
+    (both R (eqb member (member_of LDAA)) _ _ (record { byte = λ k. k.1; x = refl })
+    (both R (eqb member (member_of EORA)) _ _ (record { byte = λ k. xor_lt 8 x m k.0 k.1; x = refl })
+    (both R (eqb member (member_of ADCA)) _ _ (record { byte = λ k. omega arith; x = refl })
+    (both R (eqb member (member_of ORAA)) _ _ (record { byte = λ k. or_lt 8 x m k.0 k.1; x = refl })
+    (record { byte = λ k. omega arith; x = refl })))))))))
+
+pub changed_leaves : (member : ℕ) (f : Flags) (m : ℕ) → Leaves f (m < 256) (changed member f m)
 unfolding changed
-changed_byte member f m l =
-    both IsByte (eqb member (member_of NEG)) _ _ (omega arith)
-    (both IsByte (eqb member (member_of COM)) _ _ (omega arith)
-    (both IsByte (eqb member (member_of INC)) _ _ (omega arith)
-    (both IsByte (eqb member (member_of DEC)) _ _ (omega arith)
-    (both IsByte (eqb member (member_of LSR)) _ _ (right_below 7 m false l)
-    (both IsByte (eqb member (member_of ROL)) _ _ (omega arith)
-    (both IsByte (eqb member (member_of ROR)) _ _ (right_below 7 m f.c l)
-    (both IsByte (eqb member (member_of ASR)) _ _ (right_below 7 m (bit_of 7 m) l)
-    (both IsByte (eqb member (member_of ASL)) _ _ (omega arith)
-    (both IsByte (eqb member (member_of CLR)) _ _ (omega arith)
-    l)))))))))
+changed_leaves member f m =
+    let R : Byte → Type 0 = Leaves f (m < 256) in
+    both R (eqb member (member_of NEG)) _ _ (record { byte = λ l. omega arith; x = refl })
+    (both R (eqb member (member_of COM)) _ _ (record { byte = λ l. omega arith; x = refl })
+    (both R (eqb member (member_of INC)) _ _ (record { byte = λ l. omega arith; x = refl })
+    (both R (eqb member (member_of DEC)) _ _ (record { byte = λ l. omega arith; x = refl })
+    (both R (eqb member (member_of LSR)) _ _ (record { byte = right_below 7 m false; x = refl })
+    (both R (eqb member (member_of ROL)) _ _ (record { byte = λ l. omega arith; x = refl })
+    (both R (eqb member (member_of ROR)) _ _ (record { byte = right_below 7 m f.c; x = refl })
+    (both R (eqb member (member_of ASR)) _ _ (record { byte = right_below 7 m (bit_of 7 m); x = refl })
+    (both R (eqb member (member_of ASL)) _ _ (record { byte = λ l. omega arith; x = refl })
+    (both R (eqb member (member_of CLR)) _ _ (record { byte = λ l. omega arith; x = refl })
+    (record { byte = λ l. l; x = refl }))))))))))
 
 -- a lookup between two entries below a bound is below it
 pub lookup_fits : {n : ℕ} (b y1 y2 : ℕ) → b < 256 → y1 < n → y2 < n → lookup_of b y1 y2 < n

@@ -1,6 +1,7 @@
 -- Every turn goes one of six ways. On the definitions alone. Assumes nothing.
 use Prim.Native.Nat.{ℕ, ◌<◌}
 use native.Mathlib.Omega.{arith}
+use Rattle.std.proofs.Common.{Ok, Err}
 use mathlib.Core.Path.{◌≡◌, refl}
 use mathlib.Core.Bool.{Bool, true, false}
 use mathlib.Core.List.{List}
@@ -10,14 +11,13 @@ use Rattle.word.specs.Word.{pick}
 use Rattle.state.specs.declared.State.{State}
 use Rattle.word.proofs.Laws.{both}
 use Rattle.opcodes.specs.Rules.{stops_of}
-use Rattle.decode.specs.declared.Fetched.TheVariants.{Stop, Reserved, Instruction}
+use Rattle.decode.specs.declared.Halt.TheVariants.{Stopped, Reserved}
 use Rattle.decode.specs.Decode.{on_page_two, cell_at, after_opcode, reserved_at, fetched_of}
 use Rattle.effect.specs.Effect.{quiet}
 use Rattle.machine.specs.declared.Reply.TheVariants.{Done}
 use Rattle.machine.specs.Names.{number_of, no_line, idle_cost}
-use Rattle.turn.specs.declared.Turn.{Turn}
 use Rattle.requests.specs.Requests.{allowed_line, entry_effect, wake_effect}
-use Rattle.turn.specs.Turn.{turn_is, instructed, turn_of}
+use Rattle.turn.specs.Turn.{Turn, turn_is, instructed, turn_of}
 use Rattle.walk.specs.Words.{Words}
 use Rattle.walk.specs.Walk.{Fits}
 use Rattle.walk.specs.Turns.{instruction_at, at_pc, NoneUp, Ways, EveryTurnGoes}
@@ -35,7 +35,7 @@ at_pc_lem s m line none awake =
   where
     go :
         (st rs : Bool) → stops_of (cell_at m s.pc) ≡ st → reserved_at m (cell_at m s.pc) (after_opcode m s.pc) ≡ rs →
-        Ways s m line (instructed s m line (pick st Stop (pick rs Reserved (Instruction (instruction_at m s.pc)))))
+        Ways s m line (instructed s m line (pick st (Err Stopped) (pick rs (Err Reserved) (Ok (instruction_at m s.pc)))))
     go true rs e f = stops none awake
     go false true e f = reserves none awake
     go false false e f = runs none awake (record { on = e; free = f }) (every_instruction_gives _ m line (instruction_at m s.pc))

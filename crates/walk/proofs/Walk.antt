@@ -9,14 +9,16 @@ use borrow.Author.Tests.{eqb-true}
 use Rattle.word.specs.Word.{pick}
 use Rattle.state.specs.declared.State.{State}
 use Rattle.state.specs.Ccr.{set_i}
-use Rattle.opcodes.specs.Kind.{RTI, SWI, TRAP, group_of, SHORT_BRANCHES, LONG_BRANCHES, WITH_A, WITH_B, WITH_WORD, STORES, IN_MEMORY, IN_A, IN_B}
+use Rattle.opcodes.specs.declared.kind.ControlOp.TheVariants.{Rti}
+use Rattle.opcodes.specs.Kind.{RTI, SWI, TRAP, group_of, same, SHORT_BRANCHES, LONG_BRANCHES, WITH_A, WITH_B, WITH_WORD, STORES, IN_MEMORY, IN_A, IN_B}
 use Rattle.opcodes.specs.Kind.{REGISTERS, PRODUCTS, STACK, CONTROL, ADDRESSES, CHOICES, MOVES, LOOKUPS}
 use Rattle.decode.specs.declared.Decoded.{Decoded}
 use Rattle.effect.specs.declared.Effect.{Effect}
-use Rattle.turn.specs.Turn.{controlled, with_operand, executed}
+use Rattle.turn.specs.Turn.{control_by, controlled, with_operand, executed}
 use Rattle.walk.specs.Walk.{Before, before, EveryInstructionGives}
 use Rattle.walk.specs.Walk.IsBranch.{short, long}
 use Rattle.walk.proofs.Settings.{Yields, Yielding, start, if◌does◌else◌}
+use Rattle.walk.proofs.Control.{same_control}
 use Rattle.walk.proofs.Execute8.{with_a_lem, with_b_lem, in_memory, in_a_lem, in_b}
 use Rattle.walk.proofs.Execute16.{with_word_operand, store, choose, registers, product, look_up}
 use Rattle.walk.proofs.Flow.{stack, interrupt, short_branch, long_branch, control, rti, address, bits, move}
@@ -34,11 +36,11 @@ module _ (s : State) (m : List ℕ) (line : ℕ) (d : Decoded) (c : ℕ) where
   b = before s m line d
 
   control_or_entry : Yielding b c s (λ z. controlled z m line d)
-  unfolding controlled
+  unfolding controlled control_by
   control_or_entry =
-      if eqb d.kind SWI does interrupt start _ (set_i s.flags true) refl else
-      if eqb d.kind TRAP does interrupt start _ (set_i s.flags true) refl else
-      if eqb d.kind RTI leans (λ e. rti s m line d c (eqb-true d.kind RTI e)) else
+      if same d.kind SWI does interrupt start _ (set_i s.flags true) refl else
+      if same d.kind TRAP does interrupt start _ (set_i s.flags true) refl else
+      if same d.kind RTI leans (λ e. rti s m line d c (same_control d.kind Rti e)) else
       control s m line d c
 
   operand_taken : (group : ℕ) → Yielding b c s (λ z. with_operand group z m d)

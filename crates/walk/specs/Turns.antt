@@ -9,10 +9,9 @@ use Rattle.decode.specs.Decode.{cell_at, after_opcode, reserved_at, decoded_of}
 use Rattle.effect.specs.declared.Effect.{Effect}
 use Rattle.effect.specs.Effect.{quiet}
 use Rattle.machine.specs.declared.Reply.TheVariants.{Done, Stopped, ReservedPostbyte}
-use Rattle.turn.specs.declared.Turn.{Turn}
 use Rattle.machine.specs.Names.{no_line, idle_cost}
 use Rattle.requests.specs.Requests.{allowed_line, entry_effect, wake_effect}
-use Rattle.turn.specs.Turn.{turn_is, turn_of}
+use Rattle.turn.specs.Turn.{Turn, turn_is, turn_of}
 use Rattle.walk.specs.Walk.{Before, before, Gives}
 
 -- the instruction at an address

@@ -8,20 +8,14 @@ use Rattle.records.proofs.First.{same_run}
 use Rattle.steps.proofs.Loop.{ends_same}
 use Rattle.packing.specs.Bytes.{state_of, records_of}
 use Rattle.lent.proofs.Laws.{none_first, accepted}
-use Rattle.cpu12.proofs.Laws.{door_refuses, door_opens, told_leaves}
+use Rattle.cpu12.proofs.Laws.{error_refuses, passes_opens, told_leaves}
 use Rattle.cpu12.proofs.cpu12_run.Goals as goal
 
-pub state_of-before-requires : goal.state_of-before-requires
-state_of-before-requires c =
-    let lent = c.args in
-    let none = none_first _ _ (sym c.lent_refusal-refusal.ensures ∙ c.if-refusal-ne0.false) in
-    (accepted lent.state.now none).whole
+pub returns-in-Err : goal.returns-in-Err
+returns-in-Err c = error_refuses _ _ _ _ _ c.number.ensures c.in-Err.ensures.number
 
 pub told-requires : goal.told-requires
-told-requires c =
-    let lent = c.args in
-    let none = none_first _ _ (sym c.lent_refusal-refusal.ensures ∙ c.if-refusal-ne0.false) in
-    (accepted lent.state.now none).whole
+told-requires c = (accepted c.args.state.now (none_first _ _ (sym c.in-Ok.ensures.number))).whole
 
 pub returns : goal.returns
 returns c =
@@ -29,15 +23,12 @@ returns c =
     let m = lent.m.now in
     let s = state_of lent.state.now in
     let rs = records_of lent.schedule.now in
-    let t = c.unpacked-t.result in
-    let is_state = c.of.ensures ∙ c.state_of-before.ensures in
+    let t = c.unpacked-schedule.result in
+    let is_state = c.of.ensures ∙ c.state_of-before.ensures ∙ ap state_of c.in-Ok.ensures.record in
     let of-record = ap (λ (s : State). run_of s m (given_is (table_cycles t) (table_lines t)) lent.budget) is_state in
-    let is-table = c.unpacked-t.ensures in
+    let is-table = c.unpacked-schedule.ensures in
     let of-records = ap (λ (t : Table). run_of s m (given_is (table_cycles t) (table_lines t)) lent.budget) is-table in
-    door_opens _ _ _ _ c.lent_refusal-refusal.ensures c.if-refusal-ne0.false
+    passes_opens _ _ _ _ c.in-Ok.ensures.number
     (told_leaves
     (ends_same (sym (of-record ∙ of-records ∙ same_run s m rs lent.budget)) c.run_table.ensures)
     c.told.ensures)
-
-pub returns-then-refusal-ne0 : goal.returns-then-refusal-ne0
-returns-then-refusal-ne0 c = door_refuses _ _ _ _ c.lent_refusal-refusal.ensures c.if-refusal-ne0.true

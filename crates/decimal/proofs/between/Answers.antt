@@ -1,24 +1,26 @@
-use Rattle.std.proofs.Common.{sym, arith, rules}
-use Rattle.decimal.proofs.Laws.{part_below, part_most, one_fraction, fraction_below}
+use Rattle.std.proofs.Common.{◌≡◌, ◌+◌, ◌-◌, ◌*◌, ◌/◌, ◌%◌, ◌<◌, ◌^◌, suc, arith, rules}
+use mathlib.Core.Path.{ap}
+use native.Mathlib.Nat.{mod-eq_of_lt}
+use Rattle.decimal.specs.Lookup.{lookup_of}
+use Rattle.decimal.proofs.Laws.{one_fraction, lookup_below}
 use Rattle.decimal.proofs.between.Goals as goal
 
-pub overflow_mul-whole-2 : goal.overflow_mul-whole-2
-overflow_mul-whole-2 c = omega (arith, part_below c.args.b c.args.y2 (search rules) (search rules))
-
-pub overflow_add-whole : goal.overflow_add-whole
-overflow_add-whole c = omega (arith, part_below c.args.b c.args.y2 (search rules) (search rules))
-
-pub overflow_mul-result : goal.overflow_mul-result
-overflow_mul-result c = omega (arith, part_below c.args.b c.args.y1 (search rules) (search rules))
-
-pub overflow_sub-result : goal.overflow_sub-result
-overflow_sub-result c = omega (arith, part_most c.args.b c.args.y1 (search rules))
-
-pub overflow_cast-result-3 : goal.overflow_cast-result-3
-overflow_cast-result-3 c = omega (arith, fraction_below c.args.b c.args.y1 c.args.y2 (search rules))
-
 pub returns : goal.returns
-returns c = (
-  sym (one_fraction c.args.b c.args.y1 c.args.y2 (search rules)),
-  fraction_below c.args.b c.args.y1 c.args.y2 (search rules),
-)
+returns g c =
+    let a = c.args in
+    let W = g.W.Width in
+    let y1 = W.number a.y1 in
+    let y2 = W.number a.y2 in
+    let b-fits : a.b < 256 = search rules in
+    let y1-fits : y1 < 2 ^ suc W.top = rw (← c.wide.ensures.0) c.wide.ensures.1 in
+    let y2-fits : y2 < 2 ^ suc W.top = rw (← c.wide-2.ensures.0) c.wide-2.ensures.1 in
+    let fits : lookup_of a.b y1 y2 < 2 ^ suc W.top = omega (arith, lookup_below a.b y1 y2 b-fits) in
+    let is : (y1 * 256 + a.b * y2 - a.b * y1) / 256 % 2 ^ suc W.top ≡ lookup_of a.b y1 y2 = rw (← one_fraction a.b y1 y2 b-fits) (mod-eq_of_lt fits) in
+    rw (
+      c.cut.ensures,
+      c.wide-3.ensures.0,
+      c.wide-2.ensures.0,
+      c.wide.ensures.0,
+      c.from-b.ensures,
+    )
+    (ap W.of is)

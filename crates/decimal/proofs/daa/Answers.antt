@@ -8,12 +8,10 @@ returns c =
     let a = c.args.a in
     let fits : a < 256 = search rules in
     rw (
-      c.nzvc-flags.ensures,
-      c.top_8.ensures,
-      c.wrapping_add_u8-r.ensures.value,
-      c.part-2.ensures.0,
-      c.part.ensures.0,
-      c.past_high.ensures,
+      c.codes-flags.ensures,
+      c.from-2.ensures,
+      c.from.ensures,
+      c.from-past_high.ensures,
       ← factor_is f.c f.h a fits,
       ← corrected_is f.c f.h a fits,
     )

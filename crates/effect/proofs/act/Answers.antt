@@ -1,5 +1,6 @@
+-- As equations, so that a step that only idles is refused by its difference (must-fail/step_only_idles.edit).
 use Rattle.effect.proofs.act.Goals as goal
 
 pub returns : goal.returns
 returns c =
-    (c.with_clock.ensures, c.commit.ensures)
+    (rw (c.with_clock.ensures, c.from.ensures), c.commit.ensures)

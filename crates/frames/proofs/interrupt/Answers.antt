@@ -1,3 +1,4 @@
+-- As equations, so that a vector that is read after the pushes is refused by its difference (must-fail/vector_after_the_pushes.edit).
 use Rattle.frames.specs.Frames.{interrupt_effect}
 use Rattle.frames.proofs.interrupt.Goals as goal
 

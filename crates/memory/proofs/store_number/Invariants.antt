@@ -1,8 +1,8 @@
-use Rattle.memory.proofs.Laws.{Storing}
+use Rattle.std.proofs.Common.{◌≡◌}
+use Rattle.memory.specs.Memory.{lowest_bytes, store_all}
 use Rattle.memory.proofs.store_number.Given as goal
 
-abbrev pub invariant-loop-left : goal.invariant-loop-left
-invariant-loop-left l = Storing l.initial.m l.start l.count l.number l.m l.at l.left
-
-abbrev pub decreases-loop-left : goal.decreases-loop-left
-decreases-loop-left l = l.left
+-- What is left to store gives the whole store.
+abbrev pub invariant-loop-k : goal.invariant-loop-k
+invariant-loop-k l =
+    store_all l.m l.at (lowest_bytes l.k l.number) ≡ store_all l.initial.m l.start (lowest_bytes l.count l.number)

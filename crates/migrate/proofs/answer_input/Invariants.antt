@@ -1,4 +1,5 @@
+use Rattle.std.proofs.Common.{◌≤◌}
 use Rattle.migrate.proofs.answer_input.Given as goal
 
-abbrev pub decreases-loop-reads : goal.decreases-loop-reads
-decreases-loop-reads g l = l.reads
+abbrev pub invariant-loop : goal.invariant-loop
+invariant-loop g l = l.n ≤ 4096

@@ -5,7 +5,7 @@ use Rattle.opcodes.proofs.grid_entry.Goals as goal
 
 pub returns : goal.returns
 unfolding grid_at grid
-returns c = rw c.requires refl
+returns c = rw (c.from.ensures, c.from-2.ensures) refl
 
 pub returns-then-family-ge18 : goal.returns-then-family-ge18
 returns-then-family-ge18 c = sym (past_rows _ _ c.if-family-ge18.true)

@@ -1,14 +1,10 @@
-use Prim.Native.Nat.{◌-◌, ◌/◌, ◌≤◌}
 use mathlib.Core.Path.{◌≡◌}
-use lib.ListN.{length}
+use lib.ListN.{drop}
+use Rattle.std.specs.Prelude.{map}
 use Rattle.table.specs.Records.{no_records, gathered}
-use Rattle.packing.specs.Bytes.{packed_size, records_from, records_of}
+use Rattle.packing.specs.Bytes.{records_of}
+use Rattle.packing.proofs.Laws.{chunk_record}
 use Rattle.packing.proofs.unpacked.Given as goal
 
-abbrev pub invariant-loop-i : goal.invariant-loop-i
-invariant-loop-i l =
-    (l.i ≤ length l.bytes)
-    × (gathered l.t (records_from l.bytes ((length l.bytes - l.i) / packed_size) l.i) ≡ gathered no_records (records_of l.bytes))
-
-abbrev pub decreases-loop-i : goal.decreases-loop-i
-decreases-loop-i l = length l.bytes - l.i
+abbrev pub invariant-loop-c3 : goal.invariant-loop-c3
+invariant-loop-c3 l = gathered l.t (map chunk_record (drop l.c3-index l.records)) ≡ gathered no_records (records_of l.bytes)

@@ -13,4 +13,4 @@ returns c =
     let s = c.args.machine.state in
     let m = c.args.m.now in
     let over : Table → _ = λ (t : Table). run_of s m (given_is (table_cycles t) (table_lines t)) c.args.budget in
-    ends_same (sym (ap over c.gather-t.ensures ∙ same_run s m c.args.rs.now c.args.budget)) c.run_table.ensures
+    ends_same (sym (ap over c.gather.ensures ∙ same_run s m c.args.rs.now c.args.budget)) c.run_table.ensures

@@ -1,6 +1,6 @@
 use Prim.Native.Nat.{ℕ, ◌/◌, ◌%◌, ◌^◌}
 use native.Mathlib.Omega.{arith}
-use mathlib.Core.Path.{◌≡◌, refl, sym}
+use mathlib.Core.Path.{◌≡◌, refl}
 use mathlib.Core.Bool.{Bool, true, false, ◌&&◌, not}
 use lib.Dec.{eqb}
 use Rattle.word.specs.Word.{pick}
@@ -27,7 +27,7 @@ undivided : (n : ℕ) → n / 2 ^ 0 ≡ n
 undivided n = omega arith
 
 pub returns-then-line-eq0 : goal.returns-then-line-eq0
-returns-then-line-eq0 c = rw c.if-line-eq0.true (sym (none_up _))
+returns-then-line-eq0 c = rw (c.if-line-eq0.true, none_up c.args.f)
 
 pub returns-then-warned : goal.returns-then-warned
 unfolding allowed_line

@@ -1,13 +1,16 @@
-use mathlib.Core.Path.{sym}
-use Rattle.requests.proofs.Laws.{returns_taking, returns_plainly}
+use mathlib.Core.Path.{sym, ◌∙◌}
+use Rattle.requests.specs.Requests.{rti_effect}
+use Rattle.requests.proofs.Laws.{line_there, line_absent}
 use Rattle.requests.proofs.return_from_interrupt.Goals as goal
 
-pub returns-then-k-lt-NO_LINE : goal.returns-then-k-lt-NO_LINE
-returns-then-k-lt-NO_LINE c =
-    rw (c.quiet.ensures, c.vectored.ensures, c.with_sp-kept.ensures)
-    (sym (returns_taking _ _ _ _ c.pulled_frame-pulled.ensures c.allowed_line-k.ensures c.if-k-lt-NO_LINE.true))
+pub returns-in-Some : goal.returns-in-Some
+unfolding rti_effect
+returns-in-Some c =
+    let line = line_there _ _ (sym c.allowed_line.ensures ∙ c.in-Some.is) in
+    rw (c.quiet.ensures, c.vectored.ensures, c.with_sp-kept.ensures, ← c.pulled_frame-pulled.ensures, line.1, line.0)
 
 pub returns : goal.returns
+unfolding rti_effect
 returns c =
-    rw c.quiet-2.ensures
-    (sym (returns_plainly _ _ _ _ c.pulled_frame-pulled.ensures c.allowed_line-k.ensures c.if-k-lt-NO_LINE.false))
+    let none = line_absent _ (sym c.allowed_line.ensures ∙ c.in_default.is) in
+    rw (c.quiet-2.ensures, ← c.pulled_frame-pulled.ensures, none)

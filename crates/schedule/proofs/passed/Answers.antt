@@ -1,11 +1,7 @@
 use native.Mathlib.Omega.{arith}
 use native.Mathlib.Numerals.{add-one}
-use borrow.Author.Rules.{rules}
 use Rattle.schedule.proofs.Laws.{passed_inside, passed_here, passed_on}
 use Rattle.schedule.proofs.passed.Goals as goal
-
-pub loop-place-init : goal.loop-place-init
-loop-place-init c = search rules
 
 pub returns-then-cycles-place : goal.returns-then-cycles-place
 returns-then-cycles-place c = passed_here _ _ _ c.loop-place.invariant c.loop-place-test.true c.if-cycles-place.true

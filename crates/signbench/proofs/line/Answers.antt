@@ -8,8 +8,8 @@ use Rattle.signbench.proofs.line.Goals as goal
 pub returns : goal.returns
 unfolding line_of
 returns c =
-    let first = and_then c.put_all.ensures c.put_decimal-stop.ensures in
-    let second = named first c.put_all-2.ensures c.put_decimal-used.ensures in
+    let first = and_then c.put_all.ensures (rw c.from.ensures at c.put_decimal-stop.ensures) in
+    let second = named first c.put_all-2.ensures (rw c.from-2.ensures at c.put_decimal-used.ensures) in
     let third = named second c.put_all-3.ensures c.put_hex_word-pc.ensures in
     let fourth = named third c.put_all-4.ensures c.put_hex_byte-a.ensures in
     let fifth = named fourth c.put_all-5.ensures c.put_hex_byte-b.ensures in

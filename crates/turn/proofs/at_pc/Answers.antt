@@ -1,139 +1,79 @@
-use mathlib.Core.Path.{sym, ◌∙◌}
-use borrow.Author.Tests.{ne_eqb}
+use mathlib.Core.Path.{◌∙◌, ap}
+use mathlib.Core.Logic.{inl, inr}
+use Rattle.state.specs.declared.State.{State}
+use Rattle.opcodes.specs.declared.kind.Kind.TheVariants.{ShortBranch, LongBranch}
+use Rattle.opcodes.specs.Kind.{group_of}
 use Rattle.opcodes.specs.Postbyte.{untaken_of}
 use Rattle.decode.proofs.Laws.{stop_fetched}
 use Rattle.execute8.specs.Bytes.{in_a_effect, in_b_effect}
 use Rattle.products.specs.Products.{product_effect}
 use Rattle.stack.specs.Stack.{stack_effect}
-use Rattle.flow.specs.Branches.{short_effect, long_effect}
+use Rattle.flow.specs.Branches.{short_branched, short_effect, long_branched, long_effect}
 use Rattle.turn.specs.Turn.{executed, instructed}
-use Rattle.turn.proofs.Laws.{there, bare_done}
+use Rattle.turn.proofs.Laws.{bare_done}
 use Rattle.turn.proofs.at_pc.Goals as goal
 
--- what each group's function asks
-pub moved-requires : goal.moved-requires
-moved-requires c =
-    record { m_len = c.requires.m_len; fetched_value = c.fetch.ensures; pc_value = there c.args.m.now c.args.s.pc c.opcode_at-opcode.ensures c.group_of-group.ensures c.in-16.is }
-
-pub operands-requires : goal.operands-requires
-operands-requires c =
-    let not10 = c.in_default.in_default-own.rest in
-    let not9 = not10.0 in
-    let not8 = not9.0 in
-    let not7 = not8.0 in
-    let not6 = not7.0 in
-    let not5 = not6.0 in
-    let not4 = not5.0 in
-    let not3 = not4.0 in
-    let not2 = not3.0 in
-    let not1 = not2.0 in record {
-      grid_value = c.requires.grid_value;
-      m_len = c.requires.m_len;
-      opcode_value = c.opcode_at-opcode.ensures;
-      group_value = c.group_of-group.ensures;
-      group_value_2 = rw (
-        ne_eqb _ _ not1.1,
-        ne_eqb _ _ not10.1,
-        ne_eqb _ _ not8.1,
-        ne_eqb _ _ not9.1,
-        ne_eqb _ _ not2.1,
-        ne_eqb _ _ not3.1,
-        ne_eqb _ _ not4.1,
-        ne_eqb _ _ not5.1,
-        ne_eqb _ _ not6.1,
-        ne_eqb _ _ not7.1,
-      );
-    }
-
-pub returns-in-0 : goal.returns-in-0
+pub returns-in-Stops : goal.returns-in-Stops
 unfolding instructed
-returns-in-0 c =
-    rw (
-      stop_fetched _ _ _ c.opcode_at-opcode.ensures (sym c.group_of-group.ensures ∙ c.in-0.is),
-      c.turn_is.ensures,
-      c.quiet.ensures,
-    )
+returns-in-Stops c =
+    rw (stop_fetched _ _ _ c.opcode_at-opcode.ensures (elim c.in-Stops.is [ inl w ↦ ap group_of w.1 | inr e ↦ ap group_of e ]))
 
-pub returns-in-1 : goal.returns-in-1
+pub returns-in-ShortBranch : goal.returns-in-ShortBranch
 unfolding executed short_effect untaken_of
-returns-in-1 c =
+returns-in-ShortBranch c =
     rw (
-      bare_done _ _ _ c.opcode_at-opcode.ensures c.group_of-group.ensures (rw c.in-1.is),
-      c.done.ensures,
-      c.short_branch.ensures,
+      bare_done _ _ _ c.opcode_at-opcode.ensures (rw c.in-ShortBranch.is),
+      c.short_branch.ensures ∙ ap (λ (z : State). short_branched z (ShortBranch c.in-ShortBranch.condition) c.read_byte.result c.opcode_at-opcode.result.cell.cost 1) c.past.ensures,
       c.read_byte.ensures,
-      c.past.ensures,
-      ← c.group_of-group.ensures,
-      c.in-1.is,
+      c.in-ShortBranch.is,
     )
 
-pub returns-in-2 : goal.returns-in-2
+pub returns-in-LongBranch : goal.returns-in-LongBranch
 unfolding executed long_effect untaken_of
-returns-in-2 c =
+returns-in-LongBranch c =
     rw (
-      bare_done _ _ _ c.opcode_at-opcode.ensures c.group_of-group.ensures (rw c.in-2.is),
-      c.done-in-2.ensures,
-      c.long_branch.ensures,
+      bare_done _ _ _ c.opcode_at-opcode.ensures (rw c.in-LongBranch.is),
+      c.long_branch.ensures ∙ ap (λ (z : State). long_branched z (LongBranch c.in-LongBranch.condition) c.read_word.result c.opcode_at-opcode.result.cell.cost 3) c.past-in-LongBranch.ensures,
       c.read_word.ensures,
-      c.past-in-2.ensures,
-      ← c.group_of-group.ensures,
-      c.in-2.is,
+      c.in-LongBranch.is,
     )
 
-pub returns-in-8 : goal.returns-in-8
+pub returns-in-InA : goal.returns-in-InA
 unfolding executed in_a_effect
-returns-in-8 c =
+returns-in-InA c =
     rw (
-      bare_done _ _ _ c.opcode_at-opcode.ensures c.group_of-group.ensures (rw c.in-8.is),
-      c.done-in-8.ensures,
-      c.in_a.ensures,
-      c.past-in-8.ensures,
-      ← c.group_of-group.ensures,
-      c.in-8.is,
+      bare_done _ _ _ c.opcode_at-opcode.ensures (rw c.in-InA.is),
+      c.in_accumulator.ensures,
+      c.past-in-InA.ensures,
+      c.in-InA.is,
     )
 
-pub returns-in-9 : goal.returns-in-9
+pub returns-in-InB : goal.returns-in-InB
 unfolding executed in_b_effect
-returns-in-9 c =
+returns-in-InB c =
     rw (
-      bare_done _ _ _ c.opcode_at-opcode.ensures c.group_of-group.ensures (rw c.in-9.is),
-      c.done-in-9.ensures,
-      c.in_b.ensures,
-      c.past-in-9.ensures,
-      ← c.group_of-group.ensures,
-      c.in-9.is,
+      bare_done _ _ _ c.opcode_at-opcode.ensures (rw c.in-InB.is),
+      c.in_accumulator-in-InB.ensures,
+      c.past-in-InB.ensures,
+      c.in-InB.is,
     )
 
-pub returns-in-11 : goal.returns-in-11
+pub returns-in-Product : goal.returns-in-Product
 unfolding executed product_effect
-returns-in-11 c =
+returns-in-Product c =
     rw (
-      bare_done _ _ _ c.opcode_at-opcode.ensures c.group_of-group.ensures (rw c.in-11.is),
-      c.done-in-11.ensures,
+      bare_done _ _ _ c.opcode_at-opcode.ensures (rw c.in-Product.is),
       c.products.ensures,
-      c.decoded_is.ensures,
-      c.past-in-11.ensures,
-      ← c.group_of-group.ensures,
-      c.in-11.is,
+      c.past-in-Product.ensures,
+      c.in-Product.is,
     )
 
-pub returns-in-12 : goal.returns-in-12
+pub returns-in-Stack : goal.returns-in-Stack
 unfolding executed stack_effect
-returns-in-12 c =
+returns-in-Stack c =
     rw (
-      bare_done _ _ _ c.opcode_at-opcode.ensures c.group_of-group.ensures (rw c.in-12.is),
-      c.done-in-12.ensures,
+      bare_done _ _ _ c.opcode_at-opcode.ensures (rw c.in-Stack.is),
       c.stack.ensures,
-      c.past-in-12.ensures,
-      ← c.group_of-group.ensures,
-      c.in-12.is,
+      c.past-in-Stack.ensures,
+      c.in-Stack.is,
     )
-
-pub returns-in-10 : goal.returns-in-10
-returns-in-10 c = c.registers.ensures _
-
-pub returns-in-16 : goal.returns-in-16
-returns-in-16 c = rw (← c.fetch.ensures) (c.moved.ensures _)
-
-pub returns-in_default : goal.returns-in_default
-returns-in_default c = c.operands.ensures _

@@ -3,22 +3,18 @@ use Rattle.turn.specs.Turn.{executed, instructed}
 use Rattle.turn.proofs.Laws.{registers_free}
 use Rattle.turn.proofs.registers.Goals as goal
 
-pub returns-then-c-transfer_reserved : goal.returns-then-c-transfer_reserved
+pub returns-then-is_transfer-transfer_reserved : goal.returns-then-is_transfer-transfer_reserved
 unfolding instructed
-returns-then-c-transfer_reserved c line =
-    rw (
-      c.reserved.ensures,
-      registers_free _ _ c.requires.opcode_value c.requires.kind_value c.read_byte-postbyte.ensures c.transfer_reserved.ensures c.if-c-transfer_reserved.true,
-    )
+returns-then-is_transfer-transfer_reserved c line =
+    rw (registers_free c.args.m.now c.args.s.pc c.requires.opcode_value (rw c.requires.kind_value) c.read_byte-postbyte.ensures c.is_transfer.ensures c.transfer_reserved.ensures c.if-is_transfer-transfer_reserved.true)
 
 pub returns : goal.returns
 unfolding instructed executed registers_effect
 returns c line =
     rw (
-      c.done.ensures,
+      registers_free c.args.m.now c.args.s.pc c.requires.opcode_value (rw c.requires.kind_value) c.read_byte-postbyte.ensures c.is_transfer.ensures c.transfer_reserved.ensures c.if-is_transfer-transfer_reserved.false,
       c.registers.ensures,
       c.past.ensures,
-      registers_free _ _ c.requires.opcode_value c.requires.kind_value c.read_byte-postbyte.ensures c.transfer_reserved.ensures c.if-c-transfer_reserved.false,
       c.requires.kind_value,
       c.read_byte-postbyte.ensures,
     )

@@ -4,5 +4,6 @@ use Rattle.migrate.proofs.page.record_text.Goals as goal
 
 pub returns : goal.returns
 returns c =
-    made (and_then (and_then (and_then c.put_decimal.ensures c.put-number.ensures) c.put_hex_byte.ensures) c.put.ensures)
+    made
+    (and_then (and_then (and_then (rw c.from.ensures at c.put_decimal.ensures) c.put-number.ensures) c.put_hex_byte.ensures) c.put.ensures)
     c.empty.ensures

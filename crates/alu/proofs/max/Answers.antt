@@ -1,0 +1,8 @@
+use Rattle.std.proofs.Common.{◌<◌, ◌^◌, suc, max, arith}
+use native.Mathlib.Nat.{mod-eq_of_lt}
+use Rattle.alu.proofs.max.Goals as goal
+
+pub returns : goal.returns
+returns g c =
+    let fits : max c.wide.result c.wide-2.result < 2 ^ suc g.W.Width.top = omega (arith, c.wide.ensures.1, c.wide-2.ensures.1) in
+    rw (c.sub.ensures, c.cut-value.ensures, c.max.ensures, mod-eq_of_lt fits, c.wide.ensures.0, c.wide-2.ensures.0)

@@ -1,4 +1,0 @@
-use Rattle.codes.proofs.orcc.Goals as goal
-
-pub returns : goal.returns
-returns c = rw (c.take_ccr.ensures, c.ccr.ensures)

@@ -1,4 +1,0 @@
-use Rattle.execute16.proofs.word_chosen.Goals as goal
-
-pub returns : goal.returns
-returns c = rw (c.writes.ensures, c.word.ensures, c.with_flags.ensures)

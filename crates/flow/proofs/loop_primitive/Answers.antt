@@ -1,6 +1,0 @@
-use Rattle.flow.specs.Branches.{loop_done}
-use Rattle.flow.proofs.loop_primitive.Goals as goal
-
-pub returns : goal.returns
-unfolding loop_done
-returns c = rw (c.looped.ensures, c.extend_9.ensures)

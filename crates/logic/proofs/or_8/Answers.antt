@@ -1,4 +1,0 @@
-use Rattle.logic.proofs.or_8.Goals as goal
-
-pub returns : goal.returns
-returns c = rw c.result_8-flags.ensures

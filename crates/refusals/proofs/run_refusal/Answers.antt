@@ -1,5 +1,0 @@
-use Rattle.refusals.proofs.run_refusal.Goals as goal
-
-pub returns : goal.returns
-returns c =
-    rw (c.first_of.ensures, c.past_limit-far.ensures, c.any_withdrawn-gone.ensures, c.accepted-good.ensures)

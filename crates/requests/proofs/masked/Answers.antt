@@ -1,8 +1,0 @@
-use borrow.Author.Tests.{eq-eqb, ne_eqb}
-use Rattle.requests.proofs.masked.Goals as goal
-
-pub returns-then-k-eq0 : goal.returns-then-k-eq0
-returns-then-k-eq0 c = rw (eq-eqb _ _ c.if-k-eq0.true, c.with_x.ensures, c.with_i.ensures)
-
-pub returns : goal.returns
-returns c = rw (ne_eqb _ _ c.if-k-eq0.false, c.with_i-2.ensures)

@@ -1,5 +1,0 @@
-use Rattle.routes.proofs.immediate_to_extended.Goals as goal
-
-pub returns : goal.returns
-returns c =
-    rw (c.route_is.ensures, c.read_word.ensures, c.plus.ensures, c.data_size.ensures)

@@ -1,8 +1,0 @@
-use native.Mathlib.Omega.{arith}
-use Rattle.steps.proofs.least.Goals as goal
-
-pub returns-then-a-b : goal.returns-then-a-b
-returns-then-a-b c = omega (arith, c.if-a-b.true)
-
-pub returns : goal.returns
-returns c = omega (arith, c.if-a-b.false)
