@@ -1,7 +1,7 @@
 // Reads cases from standard input, a line each, and writes an answer for each: docs/CASES.md has the format.
 #![tactic(auto)]
 
-ghost use Rattle.std.specs.Prelude.{◌≤◌, length};
+ghost use Rattle.std.specs.Prelude.{◌≤◌, length, IfSome};
 
 use arrayvec::ArrayVec;
 use machine::{Machine, Reply};
@@ -48,7 +48,9 @@ fn answer(r: Reply, cycles: u32, s: State, sum: u64) -> Text {
     text.put(b'\n')
 }
 
-fn digit_value(b: u8) -> Option<u32> {
+fn digit_value(b: u8) -> Option<u32>
+    ensures { IfSome result (λ digit. digit ≤ 15) }
+{
     match b {
         b'0'..=b'9' => Some(u32::from(b - b'0')),
         b'A'..=b'F' => Some(u32::from(b - b'A') + 10),
@@ -56,31 +58,30 @@ fn digit_value(b: u8) -> Option<u32> {
     }
 }
 
-// The number that a word spells. A ninth digit fits no number.
-fn value_of(word: &[u8]) -> Option<u32> {
-    if matches!(word, [] | [b'0', _, ..]) {
-        return None;
-    }
-    let mut value: u32 = 0;
-    for &b in word {
-        value = value.checked_mul(16)?.checked_add(digit_value(b)?)?;
-    }
-    Some(value)
-}
-
-impl<'a> Rest<'a> {
-    // Takes a space, and what stands up to the next one.
-    fn word(&mut self) -> Option<&'a [u8]> {
+impl Rest<'_> {
+    // Takes a space, and the number that stands up to the next one, read as it is found. A ninth digit fits no number.
+    fn value(&mut self) -> Option<u32> {
         let from = self.0.strip_prefix(b" ")?;
-        let end = from.iter().position(|&b| b == b' ').unwrap_or(from.len());
+        let mut value: u32 = 0;
+        let mut end = from.len();
+        for (place, &b) in from.iter().enumerate() {
+            if b == b' ' {
+                end = place;
+                break;
+            }
+            value = value.checked_mul(16)?.checked_add(digit_value(b)?)?;
+        }
         let (word, rest) = from.split_at(end);
+        if matches!(word, [] | [b'0', _, ..]) {
+            return None;
+        }
         self.0 = rest;
-        Some(word)
+        Some(value)
     }
 
     // Takes a number of at most `most`.
     fn number(&mut self, most: u32) -> Option<u32> {
-        let value = value_of(self.word()?)?;
+        let value = self.value()?;
         if value > most {
             return None;
         }
@@ -88,11 +89,11 @@ impl<'a> Rest<'a> {
     }
 
     fn byte(&mut self) -> Option<u8> {
-        u8::try_from(value_of(self.word()?)?).ok()
+        u8::try_from(self.value()?).ok()
     }
 
     fn register(&mut self) -> Option<u16> {
-        u16::try_from(value_of(self.word()?)?).ok()
+        u16::try_from(self.value()?).ok()
     }
 
     fn registers(&mut self) -> Option<State> {
@@ -242,19 +243,29 @@ fn finish(out: &impl Print, line: &[u8], memory: &mut [u8]) -> io::Result<()>
 
 // The line that is being read. The longest well-formed line, a run, has 3,156 bytes: one that is cut short here is
 // malformed, cut or not.
-type Line = ArrayVec<u8, 4096>;
+type Line = ArrayVec<u8, ROOM>;
 
-// Takes in what was read, answering each line that it ends.
+const ROOM: usize = 4096;
+
+// Adds to the line what there is room for.
+fn keep(line: &mut Line, more: &[u8]) {
+    let room = ROOM - line.len();
+    let _ = line.try_extend_from_slice(text::first(more, room));
+}
+
+// Takes in what was read, answering each line that it ends: the first part goes on with the line that is held, and each further one
+// begins a line.
 fn take(out: &impl Print, chunk: &[u8], line: &mut Line, memory: &mut [u8]) -> io::Result<()>
     requires { length memory.old ≤ 65537 }
 {
-    for &b in chunk {
-        if b == b'\n' {
+    let mut held = true;
+    for part in chunk.split(|&b| b == b'\n') {
+        if !held {
             finish(out, line.as_slice(), memory)?;
             line.clear();
-        } else {
-            let _ = line.try_push(b);
         }
+        keep(line, part);
+        held = false;
     }
     Ok(())
 }

@@ -51,6 +51,10 @@ factor_is c h a l = eqb→eq _ _ (everywhere factor_right tt tt tt tt c h a l)
 pub corrected_is : (c h : Bool) (a : ℕ) → a < 256 → corrected c h a ≡ corrected_of table c h a
 corrected_is c h a l = same_is _ _ (everywhere corrected_right tt tt tt tt c h a l)
 
+-- a product of a part of 256 and a number of 16 bits
+pub part_below : (b y : ℕ) → b < 256 → y < 65536 → b * y < 16777216
+part_below b y k l = omega (arith, mul-le-mul_right y (le_of_lt k))
+
 -- B times Y1 is at most the 256 times Y1 from which it is taken
 pub part_most : (b y : ℕ) → b < 256 → b * y ≤ y * 256
 part_most b y l = omega (arith, mul-le-mul_right y (le_of_lt l))
@@ -80,3 +84,7 @@ lookup_below b y1 y2 l = go (leb y1 y2) refl
     go : (t : Bool) → leb y1 y2 ≡ t → pick t (y1 + b * (y2 - y1) / 256) (y1 - (b * (y1 - y2) + 255) / 256) ≤ max y1 y2
     go true e = omega (arith, leb-true y1 y2 e, part_most b (y2 - y1) l, le-max_right y1 y2)
     go false e = omega (arith, le-max_left y1 y2)
+
+-- and so does the fraction
+pub fraction_below : (b y1 y2 : ℕ) → b < 256 → (y1 * 256 + b * y2 - b * y1) / 256 ≤ max y1 y2
+fraction_below b y1 y2 l = rw (← one_fraction b y1 y2 l) (lookup_below b y1 y2 l)

@@ -83,9 +83,9 @@ halted Reserved = ReservedPostbyte
 abbrev pub HaltsAsFetched : Type 0
 HaltsAsFetched = (halt : Halt) → number_of (halted halt) ≡ fetched_reply (Err halt)
 
--- What a decoded instruction has read is what stands in the memory: its postbyte, and the form that this names. A move has two places, and
--- its indexed postbytes have the form IDX, since any other is reserved there. Every instruction that is fetched is so
--- (`FetchedFaithfully`, proved under the same name in proofs/Laws.antt).
+-- What a decoded instruction has read is what stands in the memory: its postbyte. A move has two places, and its indexed postbytes have the
+-- form IDX, since any other is reserved there. Every instruction that is fetched is so (`FetchedFaithfully`, proved under the same name in
+-- proofs/Laws.antt).
 pub record Faithful (m : List ℕ) (d : Decoded) : Type 0 where
   pub postbyte : d.postbyte ≡ byte_at m d.at
   pub moves : group_of d.kind ≡ MOVES → moves_mode d.mode ≡ true

@@ -7,8 +7,9 @@ use mathlib.Core.List.{List, [], ◌∷◌}
 use lib.Dec.{eqb, ltb}
 use lib.Seq.{take_all}
 use lib.ListN.{length, take, drop, replicate, length-drop}
-use borrow.Author.Tests.{ne_eqb, eqb-true, ltb-false}
-use Rattle.std.specs.Prelude.{Result}
+use borrow.Author.Tests.{eq-eqb, ne_eqb, eqb-true, ltb-false}
+use Rattle.std.specs.Prelude.{◌↔◌, Option, None, Some, IsSome, Result}
+use Rattle.std.specs.Option.{ok_or}
 use Rattle.std.specs.Result.{IsErrAnd}
 use Rattle.std.proofs.lemmas.Result.{err_from_is_err_and}
 use Rattle.word.specs.Word.{pick}
@@ -25,6 +26,12 @@ other_length r z = go (eqb (length r) record_size) refl z
     go : (b : Bool) → eqb (length r) record_size ≡ b → pick b 0 wrong_length ≡ 0 → length r ≡ record_size
     go true same z = eqb-true _ _ same
     go false other z = omega (arith, z)
+
+-- the number that the test of the length gives, by whether it finds a record
+pub length_told : {A : Type 0} (r : List ℕ) (o : Option A) → (IsSome o ↔ (length r ≡ record_size))
+    → refusal_number (ok_or o WrongLength) ≡ length_refusal r
+length_told r None found = rw (ne_eqb (length r) record_size (λ same. true≢false (sym (found.1 same))))
+length_told r (Some x) found = rw (eq-eqb (length r) record_size (found.0 refl))
 
 -- of a record of that length the reserved bytes are all that is left
 pub reserved_rest : (r : List ℕ) → length r ≡ record_size → take 28 (drop reserved_place r) ≡ drop reserved_place r

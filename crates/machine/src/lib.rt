@@ -51,6 +51,8 @@ fn after_reset(reply: Reply, pc: u16) -> Started
 }
 
 impl Machine {
+    pub const MEMORY: usize = 65536;
+
     pub const RECORDS: usize = 64;
 
     pub const BUDGET_LIMIT: u32 = 100000000;

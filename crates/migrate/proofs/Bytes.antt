@@ -1,34 +1,26 @@
 -- The laws that the functions of src/reading.rt ask for, on the definitions alone. Assumes nothing.
 use Prim.Native.Nat.{ℕ, ◌+◌, ◌<◌, ◌≤◌}
-use native.Mathlib.Omega.{arith}
 use native.Mathlib.Numerals.{add-one}
-use mathlib.Core.Path.{◌≡◌, refl, ◌∙◌}
+use mathlib.Core.Path.{◌≡◌, refl}
+use mathlib.Core.Bool.{true, and-eq-true_iff}
+use Rattle.std.specs.Prelude.{Option}
 use mathlib.Core.List.{List}
-use lib.Dec.{eqb, eqb→eq}
+use lib.Dec.{leb}
 use lib.ListN.{length, get_or, drop, drop_of_length-le}
 use lib.Seq.{drop-cons}
-use borrow.Author.Tests.{eq-eqb, ne_eqb}
-use Rattle.std.specs.Prelude.{Option, Some, None, SomeIff, min}
-use Rattle.std.specs.Char as char
-use Rattle.word.proofs.Table.{at_number}
+use borrow.Author.Tests.{leb-true, eq-eqb, ne_eqb}
 use Rattle.table.specs.declared.Table.{Table}
 use Rattle.migrate.specs.declared.reading.Part.{Part}
 use Rattle.migrate.specs.declared.reading.Part.TheVariants.{Nothing, Cycle, Space, Digit, Whole, Wrong}
 use Rattle.migrate.specs.declared.reading.Reading.{Reading}
-use Rattle.migrate.specs.Format.{digit_value}
+use Rattle.migrate.specs.Format.{within}
 use Rattle.migrate.specs.Reading.{grown, with_line, reading_is, with_byte, read_on}
 
--- the digits up to 16 are those of the library, which goes on to 36
-fewer_digits : (b : ℕ) → b < 256 → digit_value b ≡ min (char.digit_value b) 16
-unfolding digit_value
-fewer_digits b byte =
-    eqb→eq (digit_value b) (min (char.digit_value b) 16)
-    (at_number (λ (k : ℕ). eqb (digit_value k) (min (char.digit_value k) 16)) 256 tt b byte)
-
-pub digit_is : (b : ℕ) → b < 256 → (found : Option ℕ) → SomeIff found (char.digit_value b < 16) (char.digit_value b)
-    → SomeIff found (digit_value b < 16) (digit_value b)
-digit_is b byte None none = rw (fewer_digits b byte) (λ h. none (omega (arith, h)))
-digit_is b byte (Some d) some = rw (fewer_digits b byte) (omega (arith, some.0), some.1 ∙ omega (arith, some.0))
+-- a byte within two others
+pub inside : (low high b : ℕ) → within low high b ≡ true → (low ≤ b) × (b ≤ high)
+inside low high b is =
+    let both = (and-eq-true_iff (leb low b) (leb b high)).0 is in
+    (leb-true low b both.0, leb-true b high both.1)
 
 -- a part that can grow no more
 pub at_its_end : (p : Part) (b : ℕ) → (p ≡ Nothing → ⊥) → ((cycle : ℕ) → p ≡ Cycle cycle → ⊥) → ((cycle : ℕ) → p ≡ Space cycle → ⊥)

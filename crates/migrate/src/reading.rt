@@ -31,8 +31,16 @@ pub struct Reading {
 fn digit(b: u8) -> Option<u8>
     ensures { SomeIff result (digit_value b < 16) (digit_value b) }
 {
-    let value = char::from(b).to_digit(16)?;
-    Some(value as u8)
+    if (b >= b'0') & (b <= b'9') {
+        return Some(b - b'0');
+    }
+    if (b >= b'A') & (b <= b'F') {
+        return Some(b - b'A' + 10);
+    }
+    if (b >= b'a') & (b <= b'f') {
+        return Some(b - b'a' + 10);
+    }
+    None
 }
 
 fn longer(cycle: u32, d: u8) -> Part

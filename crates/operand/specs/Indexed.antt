@@ -97,7 +97,7 @@ indexed_place s m at pc =
     (pick (eqb (p / 64) 3) (pick (bit_of 2 p) (accumulator_place s m pc p) (constant_place s m at pc p)) (stepped_place s p))
     (five_place s pc p)
 
--- The same places as the code finds them, by the form that was decoded. The laws at the end say that they are the same.
+-- The same places as the code finds them, by the postbyte's form. The laws at the end say that they are the same.
 
 -- whether a postbyte is rr1pnnnn, rr not 3, and so steps its base register
 abbrev pub steps_of : ℕ → Bool
@@ -121,8 +121,8 @@ unstepped_place s pc p = pick (bit_of 5 p) (plain_accumulator s pc p) (five_plac
 abbrev pub plain_place : State → ℕ → ℕ → Place
 plain_place s pc p = pick (steps_of p) (stepped_place s p) (unstepped_place s pc p)
 
--- The place of any postbyte by its form, as the decoded instruction has it: that it is the one which the bits name is `ByItsForm`, proved
--- under that name in proofs/Forms.antt.
+-- The place of any postbyte by its form, which `form_of` gives: that it is the one which the bits name is `ByItsForm`, proved under that
+-- name in proofs/Forms.antt.
 unfoldable pub place_in : ℕ → State → List ℕ → ℕ → ℕ → ℕ → Place
 place_in form s m at pc p =
     pick (steps_of p) (stepped_place s p)

@@ -24,7 +24,7 @@ use Rattle.machine.specs.declared.Reply.TheVariants.{Done}
 use Rattle.machine.specs.Names.{number_of, no_line, idle_cost}
 use Rattle.machine.proofs.Laws.{number_zero}
 use Rattle.requests.specs.Requests.{allowed_line, entry_effect, wake_effect, line_after_pull, rti_effect}
-use Rattle.turn.specs.Turn.{control_by, controlled, executed, turn_is, instructed, turn_of}
+use Rattle.turn.specs.Turn.{controlled, executed, turn_is, instructed, turn_of}
 use Rattle.walk.specs.Walk.{Before, IsBranch, Gives}
 use Rattle.walk.specs.Walk.IsBranch.{short, long}
 use Rattle.walk.specs.Walk.Gives.{stores, untaken, waits, takes}
@@ -87,7 +87,7 @@ rti_cost :
     (s : State) (m : List ℕ) (line : ℕ) (d : Decoded) →
     d.kind ≡ RTI →
     (executed s m line d).cost ≡ pick (ltb (line_after_pull s m line) no_line) 10 d.cost
-unfolding executed controlled control_by rti_effect
+unfolding executed controlled rti_effect
 rti_cost s m line d is = rw is (picked_cost (ltb (line_after_pull s m line) no_line) _ _)
 
 executed_cost :

@@ -32,7 +32,7 @@ use Rattle.machine.specs.declared.Reply.TheVariants.{Done}
 use Rattle.machine.specs.Names.{line_vector, no_line, idle_cost}
 use Rattle.requests.proofs.Laws.{lowest_first, returns_taking, returns_plainly}
 use Rattle.requests.specs.Requests.{lowest_line, allowed_line, line_after_pull, masked, entry_effect, vectored, wake_effect, rti_effect}
-use Rattle.turn.specs.Turn.{Turn, control_by, controlled, executed, turn_is, instructed, turn_of}
+use Rattle.turn.specs.Turn.{Turn, controlled, executed, turn_is, instructed, turn_of}
 use Rattle.walk.specs.Words.{Words}
 use Rattle.walk.specs.Turns.{instruction_at}
 use Rattle.walk.proofs.Control.{same_control}
@@ -240,7 +240,7 @@ turn_postbyte s m opcode p at one = turn_one s m opcode at.0 one ∙ ap of at.1
 pub rti_turn :
     (s : State) (m : List ℕ) (line : ℕ) → At s m 0x0B → no_line ≤ allowed_line s.flags line →
     turn_of s m line ≡ turn_is Done (rti_effect (with_pc s (plus_w s.pc 1)) m line 8)
-unfolding cell_of reserved_of cost_of instructed executed controlled control_by
+unfolding cell_of reserved_of cost_of instructed executed controlled
 rti_turn s m line at none = turn_under s m line 0x0B at refl none
 
 -- by whether the masks that it pulls allow one
@@ -315,7 +315,7 @@ unheard :
     (s : State) (m : List ℕ) (line : ℕ) (d : Decoded) →
     (d.kind ≡ RTI → no_line ≤ line_after_pull s m line) →
     executed s m line d ≡ executed s m 0 d
-unfolding executed controlled control_by rti_effect
+unfolding executed controlled rti_effect
 unheard s m line d shut = go (same d.kind RTI) refl
   where
     go : (b : Bool) → same d.kind RTI ≡ b → executed s m line d ≡ executed s m 0 d

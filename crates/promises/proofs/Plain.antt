@@ -42,9 +42,9 @@ use Rattle.operand.specs.Indexed.{with_base, stepped_place, constant_place, accu
 use Rattle.moves.specs.Addresses.{addressed, address_effect}
 use Rattle.frames.specs.Frames.{wait_effect, pulled_frame, interrupt_effect}
 use Rattle.flow.specs.Branches.{short_effect}
-use Rattle.flow.specs.Control.{control_done}
+use Rattle.flow.specs.Control.{control_done, control_effect}
 use Rattle.machine.specs.declared.Reply.TheVariants.{Done}
-use Rattle.turn.specs.Turn.{Turn, turn_is, control_by, controlled, with_operand, executed, instructed, turn_of}
+use Rattle.turn.specs.Turn.{Turn, turn_is, controlled, with_operand, executed, instructed, turn_of}
 use Rattle.walk.proofs.Control.{same_control}
 use Rattle.walk.proofs.Registers.{set_pc}
 use Rattle.promises.specs.Plain.{At, AtTwo, done, EnteredBy, EveryInterrupt, EveryReturn, EveryCost, EveryReset, EveryAddress, KeptButNZV, KeptButZ, EveryCode, EveryInstructionKeepsX, EveryUndefined}
@@ -54,7 +54,7 @@ use Rattle.promises.proofs.Masks.{x_stays_clear}
 -- SWI, the traps, WAI.
 
 swi_turn : (s : State) (m : List ℕ) → At s m 0x3F → turn_of s m 0 ≡ turn_is Done (interrupt_effect (with_pc s (plus_w s.pc 1)) m 0xFFF6 (set_i s.flags true) 9)
-unfolding cell_of reserved_of cost_of instructed executed controlled control_by
+unfolding cell_of reserved_of cost_of instructed executed controlled
 swi_turn s m at = turn_one s m 0x3F at refl
 
 -- every trap code has the same cell
@@ -74,7 +74,7 @@ every_trap_code = tt
 trap_cell_lem :
     (s : State) (m : List ℕ) (c : Cell) (at : ℕ) → c.kind ≡ TRAP → mode_number c.mode ≡ 3 → c.length ≡ 2 → c.cost ≡ 10 →
     cell_turn s m c at ≡ turn_is Done (interrupt_effect (with_pc s (plus_w s.pc 2)) m 0xFFF8 (set_i s.flags true) 10)
-unfolding reserved_of cost_of instructed executed controlled control_by
+unfolding reserved_of cost_of instructed executed controlled
 trap_cell_lem s m c at kind mode long cost = rw (kind, mode, long, cost)
 
 trap_turn :
@@ -95,7 +95,7 @@ trap_turn s m code low among at =
     (eqb→eq _ _ (and_left mode (long && cost) rest)) (eqb→eq _ _ (and_left long cost last)) (eqb→eq _ _ (and_right long cost last))
 
 wai_turn : (s : State) (m : List ℕ) → At s m 0x3E → turn_of s m 0 ≡ turn_is Done (wait_effect (with_pc s (plus_w s.pc 1)) 7)
-unfolding cell_of reserved_of cost_of instructed executed controlled control_by control_done
+unfolding cell_of reserved_of cost_of instructed executed controlled control_effect control_done
 wai_turn s m at = turn_one s m 0x3E at refl
 
 pub every_interrupt : EveryInterrupt
@@ -141,7 +141,7 @@ every_return s m at =
     }
 
 pub every_cost : EveryCost
-unfolding cell_of reserved_of cost_of instructed executed controlled control_by control_done wait_effect product_effect accumulate_effect
+unfolding cell_of reserved_of cost_of instructed executed controlled control_effect control_done wait_effect product_effect accumulate_effect
 every_cost s m =
     record {
       wai = λ at. ap of_cost (turn_one s m 0x3E at refl);

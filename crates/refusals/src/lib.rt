@@ -1,9 +1,9 @@
 // What a step and what a run refuse: one function each, over one order, so that a later reply that refuses is added here and nowhere else.
 #![tactic(auto)]
 
-ghost use Rattle.std.specs.Prelude.{ℕ, ◌≡◌, List, length};
+ghost use Rattle.std.specs.Prelude.{◌≡◌};
 ghost use Rattle.word.specs.Word.{pick};
-ghost use Rattle.machine.specs.Names.{memory_size, number_of};
+ghost use Rattle.machine.specs.Names.{number_of};
 ghost use Rattle.refusals.specs.Given.{given_is};
 ghost use Rattle.refusals.specs.Refusals.{refusal_number, refused_number, refusal, past_limit, run_refusal};
 
@@ -40,11 +40,13 @@ fn past_limit(clock: u32, budget: u32) -> bool
     (budget > Machine::BUDGET_LIMIT) | (u64::from(clock) + u64::from(budget) > Machine::CLOCK_LIMIT)
 }
 
-// Of what may be refused the first that is, in this order. Before all of them comes WrongMemory, where what is lent is no Memory: whoever
-// has one has tested that.
-fn first_of(schedule: bool, line: bool, limit: bool) -> Result<(), Refusal>
-    ensures { refused_number result ≡ pick schedule 2 (pick line 15 (pick limit 3 0)) }
+// Of what may be refused the first that is, in this order.
+fn first_of(memory: bool, schedule: bool, line: bool, limit: bool) -> Result<(), Refusal>
+    ensures { refused_number result ≡ pick memory 1 (pick schedule 2 (pick line 15 (pick limit 3 0))) }
 {
+    if memory {
+        return Err(Refusal::WrongMemory);
+    }
     if schedule {
         return Err(Refusal::WrongSchedule);
     }
@@ -57,21 +59,21 @@ fn first_of(schedule: bool, line: bool, limit: bool) -> Result<(), Refusal>
     Ok(())
 }
 
-// What a step refuses that is lent a memory: it is lent no schedule.
-pub fn step_refusal(s: State, line: u8) -> Result<(), Refusal>
-    ensures { (m : List ℕ) → length m ≡ memory_size → refused_number result ≡ refusal s m line }
+// What a step refuses: it is lent no schedule.
+pub fn step_refusal(s: State, m: &[u8], line: u8) -> Result<(), Refusal>
+    ensures { refused_number result ≡ refusal s m.now line }
 {
     let gone = schedule::withdrawn(line);
     let far = s.clock > Machine::STEP_LIMIT;
-    first_of(false, gone, far)
+    first_of(m.len() != Machine::MEMORY, false, gone, far)
 }
 
-// What a run refuses that is lent a memory.
-pub fn run_refusal(s: State, given: Schedule<'_>, budget: u32) -> Result<(), Refusal>
-    ensures { (m : List ℕ) → length m ≡ memory_size → refused_number result ≡ run_refusal s m (given_is given.entry.cycles.now given.entry.lines.now) budget }
+// What a run refuses.
+pub fn run_refusal(s: State, m: &[u8], given: Schedule<'_>, budget: u32) -> Result<(), Refusal>
+    ensures { refused_number result ≡ run_refusal s m.now (given_is given.entry.cycles.now given.entry.lines.now) budget }
 {
     let good = given.accepted(Machine::RECORDS);
     let gone = given.any_withdrawn();
     let far = past_limit(s.clock, budget);
-    first_of(!good, gone, far)
+    first_of(m.len() != Machine::MEMORY, !good, gone, far)
 }

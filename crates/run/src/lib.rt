@@ -20,10 +20,7 @@ pub fn step(machine: Machine, m: &mut [u8], line: u8) -> Answer
     ensures { Ends (step_of machine.state m.old line) result m.new }
 {
     let s = machine.state;
-    let Some(memory) = m.as_mut_array() else {
-        return steps::answered(Reply::WrongMemory, s, 0);
-    };
-    if let Err(refusal) = refusals::step_refusal(s, line) {
+    if let Err(refusal) = refusals::step_refusal(s, m, line) {
         return steps::answered(Reply::from(refusal), s, 0);
     }
     let cycles = [0u32];
@@ -32,6 +29,7 @@ pub fn step(machine: Machine, m: &mut [u8], line: u8) -> Answer
         cycles: &cycles,
         lines: &lines,
     };
+    let memory = m.as_mut_array().unwrap();
     steps::go(s, memory, schedule, ONE_STEP, 1)
 }
 
@@ -41,12 +39,10 @@ pub fn run(machine: Machine, m: &mut [u8], cycles: &[u32], lines: &[u8], budget:
     ensures { Ends (run_of machine.state m.old (given_is cycles.now lines.now) budget) result m.new }
 {
     let s = machine.state;
-    let Some(memory) = m.as_mut_array() else {
-        return steps::answered(Reply::WrongMemory, s, 0);
-    };
     let schedule = Schedule { cycles, lines };
-    if let Err(refusal) = refusals::run_refusal(s, schedule, budget) {
+    if let Err(refusal) = refusals::run_refusal(s, m, schedule, budget) {
         return steps::answered(Reply::from(refusal), s, 0);
     }
+    let memory = m.as_mut_array().unwrap();
     steps::go(s, memory, schedule, budget, budget + 1)
 }

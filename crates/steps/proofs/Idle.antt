@@ -2,11 +2,13 @@
 use Prim.Native.Nat.{ℕ, zero, suc, ◌+◌, ◌-◌, ◌<◌, ◌≤◌, min}
 use native.Mathlib.Omega.{arith}
 use mathlib.Core.Path.{◌≡◌, refl, sym, ◌∙◌, ap}
-use mathlib.Core.Bool.{Bool, true, false}
+use mathlib.Core.Bool.{Bool, true, false, true≢false}
 use mathlib.Core.List.{List}
-use lib.Dec.{leb}
+use lib.Dec.{leb, ltb}
 use lib.ListN.{length}
-use borrow.Author.Tests.{le-ltb, leb-true}
+use Rattle.std.specs.Prelude.{Some, None, is_some}
+use Rattle.word.specs.Word.{pick}
+use borrow.Author.Tests.{le-ltb, le-leb, leb-true, ltb-false}
 use Rattle.memory.proofs.Laws.{store_none}
 use Rattle.state.specs.declared.State.{State}
 use Rattle.state.specs.State.{with_clock}
@@ -17,7 +19,7 @@ use Rattle.machine.specs.Names.{number_of, no_line, idle_cost, clock_limit}
 use Rattle.schedule.specs.declared.Watch.{Watch}
 use Rattle.schedule.specs.Schedule.{rising, passed, coming_at, watch_at}
 use Rattle.schedule.proofs.Laws.{coming_later, line_still}
-use Rattle.requests.specs.Requests.{allowed_line}
+use Rattle.requests.specs.Requests.{allowed_line, as_line}
 use Rattle.refusals.specs.Given.{Given, line_in}
 use Rattle.turn.specs.Turn.{Turn, turn_is, turn_of}
 use Rattle.steps.specs.End.{after}
@@ -145,3 +147,11 @@ idled {given} {m₀} {s₀} {budget} {boundaries} {m} {s} {w} {more} g up same l
         let due : w'.due ≡ coming_at given.cycles (passed given.cycles s.clock) = ap (λ (w : Watch). w.due) watch in
         let line = line_still given.cycles given.lines s.clock clock up same low (omega (arith, high, known.before, due)) in
         rw (line ∙ sym (ap (λ (w : Watch). w.line) watch)) known.none
+
+-- a line that is not there is no line's number
+pub none_allowed : (k : ℕ) → is_some (as_line k) ≡ false → leb no_line k ≡ true
+none_allowed k = go (ltb k no_line) refl
+  where
+    go : (there : Bool) → ltb k no_line ≡ there → is_some (pick there (Some k) None) ≡ false → leb no_line k ≡ true
+    go true low none = absurd (true≢false none)
+    go false high none = le-leb no_line k (ltb-false k no_line high)

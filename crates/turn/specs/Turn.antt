@@ -23,7 +23,7 @@ use Rattle.execute16.specs.Lookups.{looked_up, lookup_effect}
 use Rattle.stack.specs.Stack.{stack_effect}
 use Rattle.frames.specs.Frames.{interrupt_effect}
 use Rattle.flow.specs.Branches.{short_effect, long_effect}
-use Rattle.flow.specs.Control.{control_done}
+use Rattle.flow.specs.Control.{control_done, control_effect}
 use Rattle.moves.specs.Moves.{move_effect}
 use Rattle.moves.specs.Addresses.{addressed, address_effect}
 use Rattle.moves.specs.Bits.{bitted, bits_effect}
@@ -34,14 +34,18 @@ use Rattle.requests.specs.Requests.{allowed_line, entry_effect, wake_effect, rti
 
 -- What changes the flow and has no operand in memory, with SWI (002, p. 6-196) and TRAP (6-205), which are entries by a vector and set I,
 -- and RTI (6-177). RTI alone asks for the line byte that is in force where it begins.
+unfoldable pub controlled : State → List ℕ → ℕ → Decoded → Effect
+controlled s m line d =
+    pick (same d.kind SWI) (interrupt_effect s m swi_vector (set_i s.flags true) d.cost)
+    (pick (same d.kind TRAP) (interrupt_effect s m trap_vector (set_i s.flags true) d.cost)
+    (pick (same d.kind RTI) (rti_effect s m line d.cost) (control_effect s m d)))
+
+-- the same by the address after the opcode and the cost, as the code has them
 unfoldable pub control_by : Kind → State → List ℕ → ℕ → ℕ → ℕ → Effect
 control_by kind s m line at cost =
     pick (same kind SWI) (interrupt_effect s m swi_vector (set_i s.flags true) cost)
     (pick (same kind TRAP) (interrupt_effect s m trap_vector (set_i s.flags true) cost)
     (pick (same kind RTI) (rti_effect s m line cost) (control_done kind s m at cost)))
-
-unfoldable pub controlled : State → List ℕ → ℕ → Decoded → Effect
-controlled s m line d = control_by d.kind s m line d.at d.cost
 
 -- the groups whose instructions have an operand at a place in memory; the last is BITS
 unfoldable pub with_operand : ℕ → State → List ℕ → Decoded → Effect

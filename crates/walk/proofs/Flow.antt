@@ -25,7 +25,7 @@ use Rattle.stack.specs.Stack.{byte_pushed, word_pushed, pulled, stacked, stack_e
 use Rattle.stack.specs.Stack.{subroutine_effect, return_effect}
 use Rattle.frames.specs.Frames.{interrupt_effect, pulled_frame}
 use Rattle.flow.specs.Branches.{branched, short_effect, long_effect, looped, loop_done}
-use Rattle.flow.specs.Control.{control_done}
+use Rattle.flow.specs.Control.{control_done, control_effect}
 use Rattle.machine.specs.Names.{no_line}
 use Rattle.requests.specs.Requests.{allowed_line, rti_effect}
 use Rattle.moves.specs.Moves.{byte_move_effect, word_move_effect, move_effect}
@@ -161,8 +161,8 @@ module _ (s : State) (m : List ℕ) (line : ℕ) (d : Decoded) (c : ℕ) where
   unfolding loop_done
   loop = looping start (byte_at m d.at / 32) _ (byte_at m d.at % 8)
 
-  pub control : Yielding b c s (λ z. control_done d.kind z m d.at d.cost)
-  unfolding control_done
+  pub control : Yielding b c s (λ z. control_effect z m d)
+  unfolding control_effect control_done
   control =
       if same d.kind BSR does subroutine start (λ k. omega arith) else
       if same d.kind RTS does return start else

@@ -14,7 +14,7 @@ use Rattle.opcodes.specs.Kind.{RTI, SWI, TRAP, group_of, same, SHORT_BRANCHES, L
 use Rattle.opcodes.specs.Kind.{REGISTERS, PRODUCTS, STACK, CONTROL, ADDRESSES, CHOICES, MOVES, LOOKUPS}
 use Rattle.decode.specs.declared.Decoded.{Decoded}
 use Rattle.effect.specs.declared.Effect.{Effect}
-use Rattle.turn.specs.Turn.{control_by, controlled, with_operand, executed}
+use Rattle.turn.specs.Turn.{controlled, with_operand, executed}
 use Rattle.walk.specs.Walk.{Before, before, EveryInstructionGives}
 use Rattle.walk.specs.Walk.IsBranch.{short, long}
 use Rattle.walk.proofs.Settings.{Yields, Yielding, start, if◌does◌else◌}
@@ -36,7 +36,7 @@ module _ (s : State) (m : List ℕ) (line : ℕ) (d : Decoded) (c : ℕ) where
   b = before s m line d
 
   control_or_entry : Yielding b c s (λ z. controlled z m line d)
-  unfolding controlled control_by
+  unfolding controlled
   control_or_entry =
       if same d.kind SWI does interrupt start _ (set_i s.flags true) refl else
       if same d.kind TRAP does interrupt start _ (set_i s.flags true) refl else

@@ -25,7 +25,7 @@ use Rattle.frames.specs.Frames.{interrupt_effect}
 use Rattle.moves.specs.Addresses.{addressed, address_effect}
 use Rattle.machine.specs.Names.{memory_size, step_limit}
 use Rattle.requests.specs.Requests.{allowed_line}
-use Rattle.turn.specs.Turn.{control_by, controlled, with_operand, executed, instructed, turn_of}
+use Rattle.turn.specs.Turn.{controlled, with_operand, executed, instructed, turn_of}
 use Rattle.state.specs.declared.State.{State}
 use Rattle.steps.specs.End.{End}
 use Rattle.steps.specs.Steps.{turn_end, goes_on}
@@ -64,7 +64,7 @@ by_turns rows h = subst Hold (λ i. rows (λ s bytes. sym (step_is_turned s byte
 pub bench_rows : BenchRows
 unfolding bench_table lowest_bytes store_all rising any_withdrawn in_force goes_on run_of turn_of allowed_line instructed fetched_of cell_of grid grid_at families
     family_of form_of extension_of reserved_of length_of cost_of untaken_of stepped_place constant_place indexed_place operand_place executed
-    with_operand controlled control_by accumulated changed with_a_effect in_a_effect first_registers second_registers registered registers_effect
+    with_operand controlled accumulated changed with_a_effect in_a_effect first_registers second_registers registered registers_effect
     multiplied product_effect short_effect interrupt_effect addressed address_effect
 bench_rows = by_turns bench_table refl
 

@@ -13,7 +13,7 @@ use Rattle.decode.specs.Decode.{fetched_of}
 use Rattle.execute16.specs.Registers.{second_registers, registered, registers_effect}
 use Rattle.frames.specs.Frames.{interrupt_effect, pulled_frame}
 use Rattle.requests.specs.Requests.{allowed_line, entry_effect, rti_effect}
-use Rattle.turn.specs.Turn.{control_by, controlled, executed, instructed, turn_of}
+use Rattle.turn.specs.Turn.{controlled, executed, instructed, turn_of}
 use Rattle.witness.specs.Returns.{handled, at_work, irq_up, where_after, OneHandlerAfterAnother, RequestsAreTaken}
 use Rattle.witness.proofs.Trace.{Seen, nothing, trace, seen_in}
 
@@ -31,7 +31,7 @@ steps =
 
 computed : trace irq_up 7 at_work handled ≡ steps
 unfolding trace handled lowest_bytes store_all in_force turn_of allowed_line entry_effect instructed fetched_of cell_of reserved_of length_of cost_of
-    executed controlled control_by rti_effect pulled_frame second_registers registered registers_effect interrupt_effect
+    executed controlled rti_effect pulled_frame second_registers registered registers_effect interrupt_effect
 computed = refl
 
 -- what is seen of a step, as the example has it

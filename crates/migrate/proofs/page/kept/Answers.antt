@@ -3,6 +3,12 @@ use mathlib.Core.Path.{refl}
 use Rattle.migrate.proofs.Pages.{put_kept, left_out, one_kept, all_kept}
 use Rattle.migrate.proofs.page.kept.Goals as goal
 
+-- As equations, so that another byte before the first is refused by its difference (must-fail/first_record_always_kept.edit).
+pub loop-cycle-init : goal.loop-cycle-init
+loop-cycle-init c =
+    let items = c.zip-cycle-items.ensures in
+    rw (c.empty-page.ensures, c.into_iter-cycle-iterator.ensures.into_iter_gives, items.first, items.second.0, c.iter.ensures.rest)
+
 pub loop-cycle-preserved-then-line-last : goal.loop-cycle-preserved-then-line-last
 loop-cycle-preserved-then-line-last c =
     let turn = c.loop-cycle in

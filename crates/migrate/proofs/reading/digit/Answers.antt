@@ -1,11 +1,25 @@
 use native.Mathlib.Omega.{arith}
-use Rattle.std.specs.Prelude.{Some, None}
-use Rattle.migrate.proofs.Bytes.{digit_is}
+use mathlib.Core.Path.{refl}
+use Rattle.migrate.specs.Format.{digit_value}
+use Rattle.migrate.proofs.Bytes.{inside}
 use Rattle.migrate.proofs.reading.digit.Goals as goal
 
-pub returns-in_err-value : goal.returns-in_err-value
-returns-in_err-value c =
-    rw c.from_residual.ensures (digit_is c.args.b (omega arith) None (rw c.from.ensures at c.in_err-value.ensures.value))
+pub returns-then-b : goal.returns-then-b
+unfolding digit_value
+returns-then-b c = rw c.if-b.true (omega (arith, inside 48 57 c.args.b c.if-b.true), refl)
+
+pub returns-then-b-2 : goal.returns-then-b-2
+unfolding digit_value
+returns-then-b-2 c =
+    let is = inside 65 70 c.args.b c.if-b-2.true in
+    rw (c.if-b.false, c.if-b-2.true) (omega (arith, is), omega (arith, is))
+
+pub returns-then-b-3 : goal.returns-then-b-3
+unfolding digit_value
+returns-then-b-3 c =
+    let is = inside 97 102 c.args.b c.if-b-3.true in
+    rw (c.if-b.false, c.if-b-2.false, c.if-b-3.true) (omega (arith, is), omega (arith, is))
 
 pub returns : goal.returns
-returns c = digit_is c.args.b (omega arith) (Some _) (rw c.from.ensures at c.in_ok-value.ensures.value)
+unfolding digit_value
+returns c = rw (c.if-b.false, c.if-b-2.false, c.if-b-3.false) (λ h. omega (arith, h))
